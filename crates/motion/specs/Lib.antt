@@ -1,0 +1,4 @@
+pub mod Tree
+pub mod Demand
+pub mod State
+pub mod Calls

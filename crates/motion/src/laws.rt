@@ -1,0 +1,38 @@
+// The theorems, each on the contract of a function that gives its number.
+ghost use mathlib.Core.Path.{_≡_};
+ghost use Prim.Native.Nat.{_*_};
+ghost use Rattle.motion.specs.Demand.{Below-is-tested, Sum-below-splits, Demands-within, Figures-within};
+ghost use Rattle.motion.specs.Calls.{One-end, Some-end, Every-split};
+
+// The largest demand of a section, and without its sign the smallest.
+pub fn largest_demand() -> u16
+    ensures value { λ r. ⌜ r ≡ 512 ⌝ }
+    ensures demands_within { λ r. ⌜ Demands-within r ⌝ }
+{
+    512
+}
+
+// The largest figure of a siding.
+pub fn largest_figure() -> u32
+    ensures value { λ r. ⌜ r ≡ 512 * 511 ⌝ }
+    ensures figures_within { λ r. ⌜ Figures-within r ⌝ }
+{
+    261_632
+}
+
+// What lies below a section, and what its sum is.
+pub fn sums_stand() -> u8
+    ensures below_is_tested { λ _. ⌜ Below-is-tested ⌝ }
+    ensures sum_below_splits { λ _. ⌜ Sum-below-splits ⌝ }
+{
+    0
+}
+
+// Where calls lead is no matter of choice.
+pub fn runs_stand() -> u8
+    ensures one_end { λ _. ⌜ One-end ⌝ }
+    ensures some_end { λ _. ⌜ Some-end ⌝ }
+    ensures every_split { λ _. ⌜ Every-split ⌝ }
+{
+    0
+}

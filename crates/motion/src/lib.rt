@@ -1,0 +1,3 @@
+// The mathematics of a siding over plain lists: its tree, its demands, and what calls make of it.
+pub mod calls;
+pub mod laws;

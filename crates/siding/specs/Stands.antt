@@ -1,0 +1,25 @@
+-- Where a siding of the program stands.
+use mathlib.Core.Bool.{cond}
+use Prim.Native.Nat.{ℕ}
+use lib.Dec.{ltb}
+use Rattle.std.specs.declared.result.Result.{Result}
+use Rattle.std.specs.declared.result.Result.the-variants.{Ok, Err}
+use Rattle.refusal.specs.declared.Refusal.{Refusal}
+use Rattle.refusal.specs.declared.Refusal.the-variants.{NoSection}
+use Rattle.motion.specs.State.{State}
+use Rattle.siding.specs.declared.siding.Siding.{Siding}
+
+abbrev pub stateOf : Siding → State
+stateOf x = record {
+    sections = x .sections;
+    inner = x .inner;
+    wagons = x .wagons;
+    berths = x .berths;
+    head = x .head;
+    moves = x .moves;
+    away = x .away;
+  }
+
+-- a reading of a section: the value, or the refusal that there is no such section
+abbrev pub reading : {V : Type 0} → Siding → ℕ → V → Result V Refusal
+reading x s value = cond (ltb s (x .sections)) (Ok value) (Err (NoSection s))
