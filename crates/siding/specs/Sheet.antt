@@ -3,9 +3,10 @@
 --   bytes 2 and 3   the number of wagons
 --   next 2n bytes   the inner neighbour of each section, 2 bytes each; 0 for the neck
 --   next n bytes    the mark of each section: 1 for a wagon, plus 2 for a berth
+use mathlib.Core.Path.{_≡_}
 use mathlib.Core.Bool.{Bool, cond, not, _||_}
 use mathlib.Core.List.{List, [], _∷_, _++_, map}
-use Prim.Native.Nat.{ℕ, zero, suc, _+_, _*_, _/_, _%_}
+use Prim.Native.Nat.{ℕ, zero, suc, _+_, _*_, _/_, _%_, _≤_}
 use lib.Dec.{eqb, ltb, leb}
 use lib.ListN.{getD, length}
 use Rattle.std.specs.Iters.{counting}
@@ -87,6 +88,19 @@ drawn bytes =
     (cond (eqb (wagons-stated bytes) (total (sections-of bytes) (described bytes .wagons)))
         (Ok (described bytes))
         (Err WagonsMiscounted))))))
+
+-- a sheet of a size that a siding has
+pub record Sized (bytes : List ℕ) (n : ℕ) : Type 0 where
+  pub sections : n ≡ sections-of bytes
+  pub some : 1 ≤ n
+  pub most : n ≤ 512
+  pub size : length bytes ≡ sheet-size n
+
+-- a sheet in which no section is at fault
+pub record Faultless (bytes : List ℕ) (n : ℕ) : Type 0 where
+  pub sized : Sized bytes n
+  pub inner-right : lowest (inner-at-fault bytes) n ≡ None
+  pub marks-right : lowest (mark-at-fault bytes) n ≡ None
 
 -- the two bytes of a number
 abbrev pub two-bytes : ℕ → List ℕ

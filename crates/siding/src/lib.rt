@@ -1,5 +1,6 @@
 // A siding: its tree of sections, its wagons and berths, and its page.
+mod sheet;
 pub mod siding;
-pub mod tally;
+mod tally;
 
 pub use siding::Siding;
