@@ -48,4 +48,6 @@ pub struct Siding {
     ghost page: { moves + figure ≡ head + 2 * away },
 }
 
-pub mod readings;
+mod drawing;
+mod page;
+mod readings;

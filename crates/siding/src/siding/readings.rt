@@ -1,10 +1,14 @@
+// What can be read off a siding.
 ghost use mathlib.Core.Path.{_≡_};
 ghost use Prim.Native.Nat.{_+_, _*_};
 ghost use lib.ListN.{getD};
 ghost use Rattle.motion.specs.Tree.{total};
+ghost use Rattle.motion.specs.Demand.{demandOf};
 ghost use Rattle.motion.specs.State.{figure};
-ghost use Rattle.siding.specs.Stands.{stateOf};
+ghost use Rattle.siding.specs.Sheet.{mark};
+ghost use Rattle.siding.specs.Stands.{stateOf, reading};
 use crate::siding::Siding;
+use refusal::Refusal;
 
 impl Siding {
     // How many sections there are.
@@ -19,5 +23,70 @@ impl Siding {
         ensures { λ r. ⌜ r ≡ total (stateOf (now (self .entry)) .sections) (stateOf (now (self .entry)) .wagons) ⌝ }
     {
         self.wagon_count
+    }
+
+    // How many berths there are.
+    pub fn berth_count(&self) -> u16
+        ensures { λ r. ⌜ r ≡ total (stateOf (now (self .entry)) .sections) (stateOf (now (self .entry)) .berths) ⌝ }
+    {
+        self.berth_count
+    }
+
+    // The sum of the demands without their signs, over all sections but the neck.
+    pub fn figure(&self) -> u32
+        ensures { λ r. ⌜ r ≡ figure (stateOf (now (self .entry))) ⌝ }
+    {
+        self.figure
+    }
+
+    // The figure when the page was begun.
+    pub fn head(&self) -> u32
+        ensures { λ r. ⌜ r ≡ stateOf (now (self .entry)) .head ⌝ }
+    {
+        self.head
+    }
+
+    // How many moves are on the page.
+    pub fn moves(&self) -> u32
+        ensures { λ r. ⌜ r ≡ stateOf (now (self .entry)) .moves ⌝ }
+    {
+        self.moves
+    }
+
+    // How many moves of the page went away, that is, left the figure greater than before.
+    pub fn away(&self) -> u32
+        ensures { λ r. ⌜ r ≡ stateOf (now (self .entry)) .away ⌝ }
+    {
+        self.away
+    }
+
+    // The inner neighbour of a section; 0 for the neck.
+    pub fn inner(&self, section: usize) -> Result<u16, Refusal>
+        ensures { λ r. ⌜ r ≡ reading (now (self .entry)) section (getD (stateOf (now (self .entry)) .inner) section 0) ⌝ }
+    {
+        if section >= self.sections {
+            return Err(Refusal::NoSection(section));
+        }
+        Ok(self.inner[section])
+    }
+
+    // The mark of a section: 1 for a wagon, plus 2 for a berth.
+    pub fn mark(&self, section: usize) -> Result<u8, Refusal>
+        ensures { λ r. ⌜ r ≡ reading (now (self .entry)) section (mark (stateOf (now (self .entry))) section) ⌝ }
+    {
+        if section >= self.sections {
+            return Err(Refusal::NoSection(section));
+        }
+        Ok(self.wagons[section] + 2 * self.berths[section])
+    }
+
+    // The demand of a section: the berths below it less the wagons below it.
+    pub fn demand(&self, section: usize) -> Result<i16, Refusal>
+        ensures { λ r. ⌜ r ≡ reading (now (self .entry)) section (demandOf (stateOf (now (self .entry)) .sections) (stateOf (now (self .entry)) .inner) (stateOf (now (self .entry)) .wagons) (stateOf (now (self .entry)) .berths) section) ⌝ }
+    {
+        if section >= self.sections {
+            return Err(Refusal::NoSection(section));
+        }
+        Ok(self.demand[section])
     }
 }
