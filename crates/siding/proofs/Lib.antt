@@ -5,4 +5,7 @@ pub mod Drawn
 pub mod DrawnUp
 pub mod Links
 pub mod Demands
+pub mod Pairs
 pub mod RoundTrip
+pub mod Overwritten
+pub mod WrittenOut

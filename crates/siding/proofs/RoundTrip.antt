@@ -26,31 +26,7 @@ use Rattle.siding.specs.Sheet.{sheet-size, sections-of, wagons-stated, inner-o
 use Rattle.siding.specs.Kept.{Clear}
 use Rattle.siding.proofs.Slots.{slots-in, slots-same, slots-is}
 use Rattle.siding.proofs.LowestFault.{clean-lowest}
-
--- numbers one after another, two bytes each
-pairs : (ℕ → ℕ) → ℕ → ℕ → List ℕ
-pairs f a n = joined (λ s. two-bytes (f s)) (counting a n)
-
-length-pairs : (f : ℕ → ℕ) (a n : ℕ) → length (pairs f a n) ≡ 2 * n
-unfolding pairs
-length-pairs f a zero = refl
-length-pairs f a (suc n) = let ih = length-pairs f (a + 1) n in omega arith
-
-pairs-high : (f : ℕ → ℕ) (a n i s : ℕ) → i < n → a + i ≡ s → getD (pairs f a n) (2 * i) 0 ≡ f s / 256
-unfolding pairs
-pairs-high f a zero i s l e = let z : ⊥ = omega arith in absurd z
-pairs-high f a (suc n) zero s l e = let h : a ≡ s = omega arith in ap (λ t. f t / 256) h
-pairs-high f a (suc n) (suc i) s l e =
-    let two : 2 * suc i ≡ suc (suc (2 * i)) = omega arith in
-    rw two (pairs-high f (a + 1) n i s (omega arith) (omega arith))
-
-pairs-low : (f : ℕ → ℕ) (a n i s : ℕ) → i < n → a + i ≡ s → getD (pairs f a n) (2 * i + 1) 0 ≡ f s % 256
-unfolding pairs
-pairs-low f a zero i s l e = let z : ⊥ = omega arith in absurd z
-pairs-low f a (suc n) zero s l e = let h : a ≡ s = omega arith in ap (λ t. f t % 256) h
-pairs-low f a (suc n) (suc i) s l e =
-    let two : 2 * suc i + 1 ≡ suc (suc (2 * i + 1)) = omega arith in
-    rw two (pairs-low f (a + 1) n i s (omega arith) (omega arith))
+use Rattle.siding.proofs.Pairs.{pairs, length-pairs, pairs-high, pairs-low}
 
 -- the sheet of a siding, byte by byte
 module _ (x : State) where

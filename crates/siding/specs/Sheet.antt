@@ -8,7 +8,7 @@ use mathlib.Core.Bool.{Bool, cond, not, _||_}
 use mathlib.Core.List.{List, [], _∷_, _++_, map}
 use Prim.Native.Nat.{ℕ, zero, suc, _+_, _*_, _/_, _%_, _≤_}
 use lib.Dec.{eqb, ltb, leb}
-use lib.ListN.{getD, length}
+use lib.ListN.{getD, length, take, drop}
 use Rattle.std.specs.Iters.{counting}
 use Rattle.std.specs.Joined.{joined}
 use Rattle.std.specs.declared.option.Option.{Option}
@@ -117,3 +117,7 @@ sheetOf x =
     ++ (two-bytes (total (x .sections) (x .wagons))
     ++ (joined (λ s. two-bytes (getD (x .inner) s 0)) (counting 0 (x .sections))
     ++ map (mark x) (counting 0 (x .sections))))
+
+-- a buffer after bytes are written into it, from a place on
+unfoldable pub overwritten : List ℕ → ℕ → List ℕ → List ℕ
+overwritten buffer at bytes = take at buffer ++ (bytes ++ drop (at + length bytes) buffer)

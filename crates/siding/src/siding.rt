@@ -51,3 +51,4 @@ pub struct Siding {
 mod drawing;
 mod page;
 mod readings;
+mod writing;
