@@ -12,10 +12,10 @@ use refusal::Refusal;
 
 impl Siding {
     // How many sections there are.
-    pub fn sections(&self) -> usize
+    pub fn sections(&self) -> u16
         ensures { λ r. ⌜ r ≡ stateOf (now (self .entry)) .sections ⌝ }
     {
-        self.sections
+        self.sections as u16
     }
 
     // How many wagons there are.
@@ -61,32 +61,37 @@ impl Siding {
     }
 
     // The inner neighbour of a section; 0 for the neck.
-    pub fn inner(&self, section: usize) -> Result<u16, Refusal>
+    pub fn inner(&self, section: u16) -> Result<u16, Refusal>
         ensures { λ r. ⌜ r ≡ reading (now (self .entry)) section (getD (stateOf (now (self .entry)) .inner) section 0) ⌝ }
     {
-        if section >= self.sections {
-            return Err(Refusal::NoSection(section));
-        }
-        Ok(self.inner[section])
+        let s = self.section(section)?;
+        Ok(self.inner[s])
     }
 
     // The mark of a section: 1 for a wagon, plus 2 for a berth.
-    pub fn mark(&self, section: usize) -> Result<u8, Refusal>
+    pub fn mark(&self, section: u16) -> Result<u8, Refusal>
         ensures { λ r. ⌜ r ≡ reading (now (self .entry)) section (mark (stateOf (now (self .entry))) section) ⌝ }
     {
-        if section >= self.sections {
-            return Err(Refusal::NoSection(section));
-        }
-        Ok(self.wagons[section] + 2 * self.berths[section])
+        let s = self.section(section)?;
+        Ok(self.wagons[s] + 2 * self.berths[s])
     }
 
     // The demand of a section: the berths below it less the wagons below it.
-    pub fn demand(&self, section: usize) -> Result<i16, Refusal>
+    pub fn demand(&self, section: u16) -> Result<i16, Refusal>
         ensures { λ r. ⌜ r ≡ reading (now (self .entry)) section (demandOf (stateOf (now (self .entry)) .sections) (stateOf (now (self .entry)) .inner) (stateOf (now (self .entry)) .wagons) (stateOf (now (self .entry)) .berths) section) ⌝ }
     {
-        if section >= self.sections {
-            return Err(Refusal::NoSection(section));
+        let s = self.section(section)?;
+        Ok(self.demand[s])
+    }
+
+    // The slot of a section, if there is such a section.
+    pub(crate) fn section(&self, section: u16) -> Result<usize, Refusal>
+        ensures { λ r. ⌜ r ≡ reading (now (self .entry)) section section ⌝ }
+    {
+        let s = section as usize;
+        if s >= self.sections {
+            return Err(Refusal::NoSection(s));
         }
-        Ok(self.demand[section])
+        Ok(s)
     }
 }
