@@ -12,39 +12,99 @@ struct Row {
 
 const ROWS: [Row; 20] = [
     // the fork
-    Row { input: b"\x00\x04\x00\x01\x00\x00\x00\x00\x00\x00\x00\x01\x00\x00\x02\x01", answer: "4 1 3\n" },
+    Row {
+        input: b"\x00\x04\x00\x01\x00\x00\x00\x00\x00\x00\x00\x01\x00\x00\x02\x01",
+        answer: "4 1 3\n",
+    },
     // one section without anything
-    Row { input: b"\x00\x01\x00\x00\x00\x00\x00", answer: "1 0 0\n" },
+    Row {
+        input: b"\x00\x01\x00\x00\x00\x00\x00",
+        answer: "1 0 0\n",
+    },
     // a line of five, wagons 2 and 4, berths 0 and 3
-    Row { input: b"\x00\x05\x00\x02\x00\x00\x00\x00\x00\x01\x00\x02\x00\x03\x02\x00\x01\x02\x01", answer: "5 2 3\n" },
+    Row {
+        input: b"\x00\x05\x00\x02\x00\x00\x00\x00\x00\x01\x00\x02\x00\x03\x02\x00\x01\x02\x01",
+        answer: "5 2 3\n",
+    },
     // a line of three, wagons 0 and 1, berths 1 and 2
-    Row { input: b"\x00\x03\x00\x02\x00\x00\x00\x00\x00\x01\x01\x03\x02", answer: "3 2 2\n" },
+    Row {
+        input: b"\x00\x03\x00\x02\x00\x00\x00\x00\x00\x01\x01\x03\x02",
+        answer: "3 2 2\n",
+    },
     // one section, one wagon, no berth
-    Row { input: b"\x00\x01\x00\x01\x00\x00\x01", answer: "1 1 0\n" },
+    Row {
+        input: b"\x00\x01\x00\x01\x00\x00\x01",
+        answer: "1 1 0\n",
+    },
     // too short to be a sheet
-    Row { input: b"", answer: "no 1 0\n" },
-    Row { input: b"\x00\x01\x00", answer: "no 1 0\n" },
+    Row {
+        input: b"",
+        answer: "no 1 0\n",
+    },
+    Row {
+        input: b"\x00\x01\x00",
+        answer: "no 1 0\n",
+    },
     // no sections
-    Row { input: b"\x00\x00\x00\x00", answer: "no 2 0\n" },
-    Row { input: b"\x00\x00\x00\x00s\n", answer: "no 2 0\n" },
+    Row {
+        input: b"\x00\x00\x00\x00",
+        answer: "no 2 0\n",
+    },
+    Row {
+        input: b"\x00\x00\x00\x00s\n",
+        answer: "no 2 0\n",
+    },
     // more than 512
-    Row { input: b"\x02\x01\x00\x00", answer: "no 2 0\n" },
-    Row { input: b"\xff\xff\x00\x00s\n", answer: "no 2 0\n" },
+    Row {
+        input: b"\x02\x01\x00\x00",
+        answer: "no 2 0\n",
+    },
+    Row {
+        input: b"\xff\xff\x00\x00s\n",
+        answer: "no 2 0\n",
+    },
     // a byte is missing
-    Row { input: b"\x00\x02\x00\x00\x00\x00\x00\x00\x00", answer: "no 1 0\n" },
+    Row {
+        input: b"\x00\x02\x00\x00\x00\x00\x00\x00\x00",
+        answer: "no 1 0\n",
+    },
     // the neck hangs on a section; a section hangs on itself, and a later one on a higher one
-    Row { input: b"\x00\x02\x00\x00\x00\x01\x00\x00\x00\x00", answer: "no 3 0\n" },
-    Row { input: b"\x00\x04\x00\x00\x00\x00\x00\x00\x00\x02\x00\x07\x00\x00\x00\x00", answer: "no 3 2\n" },
+    Row {
+        input: b"\x00\x02\x00\x00\x00\x01\x00\x00\x00\x00",
+        answer: "no 3 0\n",
+    },
+    Row {
+        input: b"\x00\x04\x00\x00\x00\x00\x00\x00\x00\x02\x00\x07\x00\x00\x00\x00",
+        answer: "no 3 2\n",
+    },
     // marks above 3, behind a fault of the tree and without one
-    Row { input: b"\x00\x02\x00\x00\x00\x00\x00\x01\x04\x04", answer: "no 3 1\n" },
-    Row { input: b"\x00\x03\x00\x00\x00\x00\x00\x00\x00\x00\x00\x04\xff", answer: "no 4 1\n" },
+    Row {
+        input: b"\x00\x02\x00\x00\x00\x00\x00\x01\x04\x04",
+        answer: "no 3 1\n",
+    },
+    Row {
+        input: b"\x00\x03\x00\x00\x00\x00\x00\x00\x00\x00\x00\x04\xff",
+        answer: "no 4 1\n",
+    },
     // two wagons where one is stated, and lines after a refused sheet
-    Row { input: b"\x00\x02\x00\x01\x00\x00\x00\x00\x01\x03s\n", answer: "no 5 0\n" },
+    Row {
+        input: b"\x00\x02\x00\x01\x00\x00\x00\x00\x01\x03s\n",
+        answer: "no 5 0\n",
+    },
     // a number with its bytes the other way round
-    Row { input: b"\x04\x00\x01\x00", answer: "no 2 0\n" },
+    Row {
+        input: b"\x04\x00\x01\x00",
+        answer: "no 2 0\n",
+    },
     // a line, an empty line, and a rest without an end
-    Row { input: b"\x00\x01\x00\x00\x00\x00\x00s\n\nn", answer: "1 0 0\nno 15\nno 15\nno 15\n" },
-    Row { input: b"\x00\x01\x00\x00\x00\x00\x00\n", answer: "1 0 0\nno 15\n" },
+    Row {
+        input: b"\x00\x01\x00\x00\x00\x00\x00s\n\nn",
+        answer: "1 0 0\nno 15\nno 15\nno 15\n",
+    },
+    Row {
+        input: b"\x00\x01\x00\x00\x00\x00\x00\n",
+        answer: "1 0 0\nno 15\n",
+    },
 ];
 
 #[test]

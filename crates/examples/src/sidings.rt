@@ -54,7 +54,10 @@ fn sheet_is_written() -> Result<(), Fail> {
 fn refused_sheet_changes_nothing() -> Result<(), Fail> {
     let mut siding = Siding::bare();
     siding.draw_up(FORK)?;
-    check_eq(siding.draw_up(b"\x00\x01\x00\x01\x00\x00\x00"), Err(Refusal::WagonsMiscounted))?;
+    check_eq(
+        siding.draw_up(b"\x00\x01\x00\x01\x00\x00\x00"),
+        Err(Refusal::WagonsMiscounted),
+    )?;
     check_eq(siding.sections(), 4)?;
     check_eq(siding.figure(), 3)
 }
@@ -63,6 +66,17 @@ fn refused_sheet_changes_nothing() -> Result<(), Fail> {
 fn page_is_turned() -> Result<(), Fail> {
     let mut siding = Siding::bare();
     let account = replay(&mut siding, FORK, &[Call::Turn, Call::Turn])?;
-    check_eq(account, Account { figure: 3, head: 3, moves: 0, away: 0 })?;
-    check_eq(replay(&mut siding, b"", &[Call::Turn]), Err(Refusal::SheetLength))
+    check_eq(
+        account,
+        Account {
+            figure: 3,
+            head: 3,
+            moves: 0,
+            away: 0,
+        },
+    )?;
+    check_eq(
+        replay(&mut siding, b"", &[Call::Turn]),
+        Err(Refusal::SheetLength),
+    )
 }

@@ -17,7 +17,7 @@ pub under-most : (n : ℕ) (inner xs : List ℕ) (s : ℕ) → under n inner xs 
 unfolding under
 under-most n inner xs s =
     sum-below (λ t. cond (isBelow inner s t) (getD xs t 0) 0) (λ t. getD xs t 0) n
-      (λ t l. elim (isBelow inner s t) as (λ v. cond v (getD xs t 0) 0 ≤ getD xs t 0) [ true ↦ omega arith | false ↦ omega arith ])
+    (λ t l. elim (isBelow inner s t) as (λ v. cond v (getD xs t 0) 0 ≤ getD xs t 0) [ true ↦ omega arith | false ↦ omega arith ])
 
 pub total-most : (n : ℕ) (xs : List ℕ) → Single n xs → total n xs ≤ n
 total-most n xs single = let h = sum-most (λ t. getD xs t 0) 1 n single in omega arith

@@ -26,7 +26,7 @@ pub gathered-none : (n : ℕ) (inner xs : List ℕ) (u : ℕ) → gathered n n i
 unfolding gathered part
 gathered-none n inner xs u =
     let none : sumTo (part n n inner xs u) n ≡ 0 =
-          sum-zero (part n n inner xs u) n (λ c l. cond-false (leb n c && isBranch inner u c) _ 0 (and-left (leb n c) _ (lt-leb n c l))) in
+    sum-zero (part n n inner xs u) n (λ c l. cond-false (leb n c && isBranch inner u c) _ 0 (and-left (leb n c) _ (lt-leb n c l))) in
     omega arith
 
 module _ (n : ℕ) (inner : List ℕ) (tree : Tree n inner) where
@@ -35,16 +35,16 @@ module _ (n : ℕ) (inner : List ℕ) (tree : Tree n inner) where
   unfolding gathered part
   gathered-all k xs u l h =
       let same : sumTo (part k n inner xs u) n ≡ sumTo (λ c. cond (isBranch inner u c) (under n inner xs c) 0) n =
-            sum-same (part k n inner xs u) (λ c. cond (isBranch inner u c) (under n inner xs c) 0) n
-              (λ c lc.
-                ⊎-elim
-                  (λ (b : isBranch inner u c ≡ true).
-                    let up = branch-high n inner tree u c lc b in
-                    ap (λ v. cond (v && isBranch inner u c) (under n inner xs c) 0) (le-leb k c (omega arith)))
-                  (λ (b : isBranch inner u c ≡ false).
-                    let both : (leb k c && isBranch inner u c) ≡ isBranch inner u c = grind (arith, b) in
-                    ap (λ v. cond v (under n inner xs c) 0) both)
-                  (cases-bool (isBranch inner u c))) in
+      sum-same (part k n inner xs u) (λ c. cond (isBranch inner u c) (under n inner xs c) 0) n
+      (λ c lc.
+      ⊎-elim
+      (λ (b : isBranch inner u c ≡ true).
+      let up = branch-high n inner tree u c lc b in
+      ap (λ v. cond (v && isBranch inner u c) (under n inner xs c) 0) (le-leb k c (omega arith)))
+      (λ (b : isBranch inner u c ≡ false).
+      let both : (leb k c && isBranch inner u c) ≡ isBranch inner u c = grind (arith, b) in
+      ap (λ v. cond v (under n inner xs c) 0) both)
+      (cases-bool (isBranch inner u c))) in
       let splits = sum-below-splits n inner tree xs u l in
       omega arith
 
@@ -54,8 +54,8 @@ module _ (n : ℕ) (inner : List ℕ) (tree : Tree n inner) where
   gathered-inner k s xs z l e =
       let u : ℕ = getD inner s 0 in
       let one : sumTo (part s n inner xs u) n + part k n inner xs u s ≡ sumTo (part k n inner xs u) n + part s n inner xs u s =
-            sum-one (part k n inner xs u) (part s n inner xs u) n s l
-              (λ c lc ne. let t : leb k c ≡ leb s c = grind (arith, tells) in ap (λ v. cond (v && isBranch inner u c) (under n inner xs c) 0) t) in
+      sum-one (part k n inner xs u) (part s n inner xs u) n s l
+      (λ c lc ne. let t : leb k c ≡ leb s c = grind (arith, tells) in ap (λ v. cond (v && isBranch inner u c) (under n inner xs c) 0) t) in
       let was : part k n inner xs u s ≡ 0 = cond-false (leb k s && isBranch inner u s) _ 0 (and-left (leb k s) _ (lt-leb k s (omega arith))) in
       let yes : (leb s s && isBranch inner u s) ≡ true = grind (arith, tells) in
       let now : part s n inner xs u s ≡ under n inner xs s = cond-true (leb s s && isBranch inner u s) _ 0 yes in
@@ -66,16 +66,16 @@ module _ (n : ℕ) (inner : List ℕ) (tree : Tree n inner) where
   unfolding gathered part
   gathered-other k s xs u e ne =
       ap (λ v. getD xs u 0 + v)
-        (sum-same (part s n inner xs u) (part k n inner xs u) n
-          (λ c lc. let t : (leb s c && isBranch inner u c) ≡ (leb k c && isBranch inner u c) = grind (arith, tells) in ap (λ v. cond v (under n inner xs c) 0) t))
+      (sum-same (part s n inner xs u) (part k n inner xs u) n
+      (λ c lc. let t : (leb s c && isBranch inner u c) ≡ (leb k c && isBranch inner u c) = grind (arith, tells) in ap (λ v. cond v (under n inner xs c) 0) t))
 
   -- no more is gathered than there is
   pub gathered-most : (k : ℕ) (xs : List ℕ) (u : ℕ) → u < n → gathered k n inner xs u ≤ under n inner xs u
   unfolding gathered part
   gathered-most k xs u l =
       let less : sumTo (part k n inner xs u) n ≤ sumTo (λ c. cond (isBranch inner u c) (under n inner xs c) 0) n =
-            sum-below (part k n inner xs u) (λ c. cond (isBranch inner u c) (under n inner xs c) 0) n
-              (λ c lc. fewer (leb k c) (isBranch inner u c) (under n inner xs c)) in
+      sum-below (part k n inner xs u) (λ c. cond (isBranch inner u c) (under n inner xs c) 0) n
+      (λ c lc. fewer (leb k c) (isBranch inner u c) (under n inner xs c)) in
       let splits = sum-below-splits n inner tree xs u l in
       omega arith
     where

@@ -32,16 +32,16 @@ unfolding sumTo
 sum-one f g zero i l h = omega arith
 sum-one f g (suc n) i l h =
     ⊎-elim
-      (λ (e : i ≡ n).
-        let same : sumTo f n ≡ sumTo g n = sum-same f g n (λ t k. h t (omega arith) (omega arith)) in
-        let a = ap f e in
-        let b = ap g e in
-        omega arith)
-      (λ (ne : i ≡ n → ⊥).
-        let ih = sum-one f g n i (omega arith) (λ t k. h t (omega arith)) in
-        let e : f n ≡ g n = h n (omega arith) (omega arith) in
-        omega arith)
-      (cases-eq i n)
+    (λ (e : i ≡ n).
+    let same : sumTo f n ≡ sumTo g n = sum-same f g n (λ t k. h t (omega arith) (omega arith)) in
+    let a = ap f e in
+    let b = ap g e in
+    omega arith)
+    (λ (ne : i ≡ n → ⊥).
+    let ih = sum-one f g n i (omega arith) (λ t k. h t (omega arith)) in
+    let e : f n ≡ g n = h n (omega arith) (omega arith) in
+    omega arith)
+    (cases-eq i n)
 
 pub sum-zero : (f : ℕ → ℕ) (n : ℕ) → ((t : ℕ) → t < n → f t ≡ 0) → sumTo f n ≡ 0
 unfolding sumTo
@@ -91,5 +91,5 @@ sum-pick f n u l =
     let at : g u ≡ f u = cond-true (eqb u u) (f u) 0 (eq-eqb u u refl) in
     let none = sum-zero (λ t. 0) n (λ t l. refl) in
     let one : sumTo g n + 0 ≡ sumTo (λ t. 0) n + g u =
-          sum-one (λ t. 0) g n u l (λ t k ne. sym (cond-false (eqb u t) (f t) 0 (ne-eqb u t (λ e. ne (sym e))))) in
+    sum-one (λ t. 0) g n u l (λ t k ne. sym (cond-false (eqb u t) (f t) 0 (ne-eqb u t (λ e. ne (sym e))))) in
     omega arith

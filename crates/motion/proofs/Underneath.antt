@@ -26,9 +26,9 @@ module _ (n : ℕ) (inner : List ℕ) (tree : Tree n inner) where
   inward : (t k : ℕ) → t < n → t ≤ suc k → (getD inner t 0 ≤ k) × (getD inner t 0 < n)
   inward t k l m =
       ⊎-elim
-        (λ (e : t ≡ 0). let z : getD inner t 0 ≡ 0 = ap (λ x. getD inner x 0) e ∙ tree .neck in omega arith)
-        (λ (ne : t ≡ 0 → ⊥). omega (arith, tree .lower t (omega arith) l))
-        (cases-eq t 0)
+      (λ (e : t ≡ 0). let z : getD inner t 0 ≡ 0 = ap (λ x. getD inner x 0) e ∙ tree .neck in omega arith)
+      (λ (ne : t ≡ 0 → ⊥). omega (arith, tree .lower t (omega arith) l))
+      (cases-eq t 0)
 
   at-neck : (s k : ℕ) → metWithin k inner s 0 ≡ eqb s 0
   unfolding metWithin
@@ -87,18 +87,18 @@ module _ (n : ℕ) (inner : List ℕ) (tree : Tree n inner) where
   met-is-below s zero t l p h = subst (Below inner s) (eqb-true s t h) Below.itself
   met-is-below s (suc k) t l p h =
       ⊎-elim
-        (λ (e : s ≡ t). subst (Below inner s) e Below.itself)
-        (λ (ne : s ≡ t → ⊥).
-          let m : metWithin k inner s (getD inner t 0) ≡ true = sym (cond-false (eqb s t) true (metWithin k inner s (getD inner t 0)) (ne-eqb s t ne)) ∙ h in
-          ⊎-elim
-            (λ (z : t ≡ 0).
-              let a : metWithin k inner s (getD inner t 0) ≡ eqb s 0 = ap (metWithin k inner s) (ap (λ x. getD inner x 0) z ∙ tree .neck) ∙ at-neck s k in
-              absurd (ne (eqb-true s 0 (sym a ∙ m) ∙ sym z)))
-            (λ (z : t ≡ 0 → ⊥).
-              let b = inward t k l p in
-              Below.farther (omega arith) (met-is-below s k (getD inner t 0) (b .1) (b .0) m))
-            (cases-eq t 0))
-        (cases-eq s t)
+      (λ (e : s ≡ t). subst (Below inner s) e Below.itself)
+      (λ (ne : s ≡ t → ⊥).
+      let m : metWithin k inner s (getD inner t 0) ≡ true = sym (cond-false (eqb s t) true (metWithin k inner s (getD inner t 0)) (ne-eqb s t ne)) ∙ h in
+      ⊎-elim
+      (λ (z : t ≡ 0).
+      let a : metWithin k inner s (getD inner t 0) ≡ eqb s 0 = ap (metWithin k inner s) (ap (λ x. getD inner x 0) z ∙ tree .neck) ∙ at-neck s k in
+      absurd (ne (eqb-true s 0 (sym a ∙ m) ∙ sym z)))
+      (λ (z : t ≡ 0 → ⊥).
+      let b = inward t k l p in
+      Below.farther (omega arith) (met-is-below s k (getD inner t 0) (b .1) (b .0) m))
+      (cases-eq t 0))
+      (cases-eq s t)
 
   -- and nothing else
   pub below-is : (s t : ℕ) → t < n → isBelow inner s t ≡ true → Below inner s t

@@ -24,22 +24,22 @@ Single n xs = (s : ℕ) → s < n → getD xs s 0 ≤ 1
 abbrev pub Below-is-tested : Type 0
 Below-is-tested =
     (n : ℕ) (inner : List ℕ) → Tree n inner → (s t : ℕ) → t < n
-  → (Below inner s t → isBelow inner s t ≡ true) × (isBelow inner s t ≡ true → Below inner s t)
+    → (Below inner s t → isBelow inner s t ≡ true) × (isBelow inner s t ≡ true → Below inner s t)
 
 -- the sum below a section is its own entry plus the sums below its branches
 abbrev pub Sum-below-splits : Type 0
 Sum-below-splits =
     (n : ℕ) (inner xs : List ℕ) → Tree n inner → (s : ℕ) → s < n
-  → under n inner xs s ≡ getD xs s 0 + sumTo (λ c. cond (isBranch inner s c) (under n inner xs c) 0) n
+    → under n inner xs s ≡ getD xs s 0 + sumTo (λ c. cond (isBranch inner s c) (under n inner xs c) 0) n
 
 -- with at most 512 sections no demand is larger than so much, sign or no sign
 abbrev pub Demands-within : ℕ → Type 0
 Demands-within most =
     (n : ℕ) (inner wagons berths : List ℕ) → n ≤ 512 → Single n wagons → Single n berths
-  → (s : ℕ) → natAbs (demandOf n inner wagons berths s) ≤ most
+    → (s : ℕ) → natAbs (demandOf n inner wagons berths s) ≤ most
 
 -- with at most 512 sections no figure is larger than so much
 abbrev pub Figures-within : ℕ → Type 0
 Figures-within most =
     (n : ℕ) (inner wagons berths : List ℕ) → n ≤ 512 → Single n wagons → Single n berths
-  → figureOf n inner wagons berths ≤ most
+    → figureOf n inner wagons berths ≤ most

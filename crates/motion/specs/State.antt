@@ -22,14 +22,14 @@ figure x = figureOf (x .sections) (x .inner) (x .wagons) (x .berths)
 -- a page is begun: its head is the figure of that moment
 abbrev pub page-begun : State → State
 page-begun x = record {
-    sections = x .sections;
-    inner = x .inner;
-    wagons = x .wagons;
-    berths = x .berths;
-    head = figure x;
-    moves = 0;
-    away = 0;
-  }
+  sections = x .sections;
+  inner = x .inner;
+  wagons = x .wagons;
+  berths = x .berths;
+  head = figure x;
+  moves = 0;
+  away = 0;
+}
 
 -- as many wagons as berths
 abbrev pub Equal-numbers : State → Type 0

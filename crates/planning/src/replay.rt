@@ -16,7 +16,12 @@ pub fn replay(siding: &mut Siding, sheet: &[u8], calls: &[Call]) -> Result<Accou
 {
     siding.draw_up(sheet)?;
     make_all(siding, calls);
-    Ok(Account { figure: siding.figure(), head: siding.head(), moves: siding.moves(), away: siding.away() })
+    Ok(Account {
+        figure: siding.figure(),
+        head: siding.head(),
+        moves: siding.moves(),
+        away: siding.away(),
+    })
 }
 
 // Makes the calls one after another.

@@ -10,6 +10,6 @@ use Rattle.std.proofs.shelf.Tests.{cases-lt}
 pub blank : {A : Type 0} (m : ℕ) (a : A) (u : ℕ) → getD (replicate m a) u a ≡ a
 blank m a u =
     ⊎-elim
-      (λ (l : u < m). getD-replicate m u a a l)
-      (λ (l : m ≤ u). getD-past (replicate m a) u a (omega (arith, length-replicate m a)))
-      (cases-lt u m)
+    (λ (l : u < m). getD-replicate m u a a l)
+    (λ (l : m ≤ u). getD-past (replicate m a) u a (omega (arith, length-replicate m a)))
+    (cases-lt u m)

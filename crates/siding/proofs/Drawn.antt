@@ -32,8 +32,8 @@ module _ (bytes : List ℕ) where
   marks-tested =
       unless-at-fault (lowest (mark-at-fault bytes) (sections-of bytes)) MarkTooLarge
       (cond (eqb (wagons-stated bytes) (total (sections-of bytes) (described bytes .wagons)))
-          (Ok (described bytes))
-          (Err WagonsMiscounted))
+      (Ok (described bytes))
+      (Err WagonsMiscounted))
 
   abbrev length-tested : Result State Refusal
   length-tested =
@@ -45,10 +45,10 @@ module _ (bytes : List ℕ) where
     unfolding drawn
     drawn-size either =
         let out : (eqb (sections-of bytes) 0 || ltb 512 (sections-of bytes)) ≡ true =
-              ⊎-elim
-                (λ (z : sections-of bytes ≡ 0). or-left _ _ (eq-eqb (sections-of bytes) 0 z))
-                (λ (l : 512 < sections-of bytes). or-right _ _ (lt-ltb 512 (sections-of bytes) l))
-                either in
+        ⊎-elim
+        (λ (z : sections-of bytes ≡ 0). or-left _ _ (eq-eqb (sections-of bytes) 0 z))
+        (λ (l : 512 < sections-of bytes). or-right _ _ (lt-ltb 512 (sections-of bytes) l))
+        either in
         cond-false (ltb (length bytes) 4) _ _ (le-ltb (length bytes) 4 long) ∙ cond-true _ _ _ out
 
     module _ (some : 1 ≤ sections-of bytes) (most : sections-of bytes ≤ 512) where
@@ -57,12 +57,12 @@ module _ (bytes : List ℕ) where
       drawn-to-length =
           cond-false (ltb (length bytes) 4) _ _ (le-ltb (length bytes) 4 long)
           ∙ cond-false (eqb (sections-of bytes) 0 || ltb 512 (sections-of bytes)) _ _
-              (or-from _ _ (ne-eqb (sections-of bytes) 0 (λ z. omega arith)) (le-ltb 512 (sections-of bytes) most))
+          (or-from _ _ (ne-eqb (sections-of bytes) 0 (λ z. omega arith)) (le-ltb 512 (sections-of bytes) most))
 
       pub drawn-length : (length bytes ≡ sheet-size (sections-of bytes) → ⊥) → drawn bytes ≡ Err SheetLength
       drawn-length off =
           drawn-to-length ∙ cond-true (not (eqb (length bytes) (sheet-size (sections-of bytes)))) _ _
-            (not-from-false _ (ne-eqb (length bytes) (sheet-size (sections-of bytes)) off))
+          (not-from-false _ (ne-eqb (length bytes) (sheet-size (sections-of bytes)) off))
 
 -- where the mark of a section stands
 pub mark-at : (bytes : List ℕ) (n s : ℕ) → Sized bytes n → getD bytes (4 + 2 * n + s) 0 ≡ mark-of bytes s
@@ -114,14 +114,14 @@ module _ (bytes : List ℕ) (n : ℕ) (clean : Faultless bytes n) where
 
   pub described-tree : Tree n (slots n (inner-of bytes))
   described-tree = record {
-      neck =
-          let l : 0 < n = omega (arith, clean .sized .some) in
-          slots-in n (inner-of bytes) 0 (clean .sized .most) l ∙ eqb-true (inner-of bytes 0) 0 (not-false _ (inner-fine 0 l));
-      lower = λ s z l.
-          let at = slots-in n (inner-of bytes) s (clean .sized .most) l in
-          let low : leb s (inner-of bytes s) ≡ false = sym (cond-false (eqb s 0) _ _ (ne-eqb s 0 (λ e. omega arith))) ∙ inner-fine s l in
-          omega (arith, leb-false s (inner-of bytes s) low);
-    }
+    neck =
+        let l : 0 < n = omega (arith, clean .sized .some) in
+        slots-in n (inner-of bytes) 0 (clean .sized .most) l ∙ eqb-true (inner-of bytes 0) 0 (not-false _ (inner-fine 0 l));
+    lower = λ s z l.
+        let at = slots-in n (inner-of bytes) s (clean .sized .most) l in
+        let low : leb s (inner-of bytes s) ≡ false = sym (cond-false (eqb s 0) _ _ (ne-eqb s 0 (λ e. omega arith))) ∙ inner-fine s l in
+        omega (arith, leb-false s (inner-of bytes s) low);
+  }
 
   mark-fine : (s : ℕ) → s < n → mark-of bytes s ≤ 3
   mark-fine s l = ltb-false 3 (mark-of bytes s) (lowest-clean (mark-at-fault bytes) n (clean .marks-right) s l)

@@ -13,9 +13,8 @@ use Rattle.siding.specs.Stands.{stateOf, standing}
 use Rattle.siding.proofs.Drawn.{drawn-counted, drawn-miscounted}
 
 module _ (bytes : List ℕ) (n : ℕ) (clean : Faultless bytes n) (inner wagons berths : List ℕ)
-  (read-inner : inner ≡ slots n (inner-of bytes)) (read-wagons : wagons ≡ slots n (λ s. mark-of bytes s % 2)) (read-berths : berths ≡ slots n (λ s. mark-of bytes s / 2))
-  (y : Siding) (made : stateOf y ≡ page-begun (standing n inner wagons berths)) where
-
+    (read-inner : inner ≡ slots n (inner-of bytes)) (read-wagons : wagons ≡ slots n (λ s. mark-of bytes s % 2)) (read-berths : berths ≡ slots n (λ s. mark-of bytes s / 2))
+    (y : Siding) (made : stateOf y ≡ page-begun (standing n inner wagons berths)) where
   is-described : stateOf y ≡ described bytes
   is-described =
       made

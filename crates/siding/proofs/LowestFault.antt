@@ -28,9 +28,9 @@ unfolding lowest
 lowest-found f k zero none finds l = let z : ⊥ = omega arith in absurd z
 lowest-found f k (suc n) none finds l =
     ⊎-elim
-      (λ (e : k ≡ n). ap (λ m. lowest f (suc m)) (sym e) ∙ step f k none ∙ cond-true (f k) (Some k) None finds)
-      (λ (ne : k ≡ n → ⊥). ap (λ o. first-of o (cond (f n) (Some n) None)) (lowest-found f k n none finds (omega arith)))
-      (cases-eq k n)
+    (λ (e : k ≡ n). ap (λ m. lowest f (suc m)) (sym e) ∙ step f k none ∙ cond-true (f k) (Some k) None finds)
+    (λ (ne : k ≡ n → ⊥). ap (λ o. first-of o (cond (f n) (Some n) None)) (lowest-found f k n none finds (omega arith)))
+    (cases-eq k n)
 
 -- nothing found: the test fails on every number
 both-none : (o p : Option ℕ) → first-of o p ≡ None → (o ≡ None) × (p ≡ None)
@@ -47,9 +47,9 @@ lowest-clean f zero none k l = let z : ⊥ = omega arith in absurd z
 lowest-clean f (suc n) none k l =
     let both = both-none (lowest f n) (cond (f n) (Some n) None) none in
     ⊎-elim
-      (λ (e : k ≡ n). ap f e ∙ fails-here (f n) n (both .1))
-      (λ (ne : k ≡ n → ⊥). lowest-clean f n (both .0) k (omega arith))
-      (cases-eq k n)
+    (λ (e : k ≡ n). ap f e ∙ fails-here (f n) n (both .1))
+    (λ (ne : k ≡ n → ⊥). lowest-clean f n (both .0) k (omega arith))
+    (cases-eq k n)
 
 -- and the other way round
 pub clean-lowest : (f : ℕ → Bool) (n : ℕ) → ((k : ℕ) → k < n → f k ≡ false) → lowest f n ≡ None

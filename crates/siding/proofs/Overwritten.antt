@@ -47,9 +47,9 @@ module _ (buffer : List ℕ) (at : ℕ) (bytes : List ℕ) where
       let long : length front ≡ k = length-front (omega arith) ∙ sym e in
       let taken : take k (overwritten buffer at bytes) ≡ front = ap (take k) whole ∙ take-at front (drop k buffer) k long in
       let left : drop (k + length more) (overwritten buffer at bytes) ≡ drop (k + length more) buffer =
-            sym (drop-drop (length more) k (overwritten buffer at bytes))
-            ∙ ap (drop (length more)) (ap (drop k) whole ∙ drop-at front (drop k buffer) k long)
-            ∙ drop-drop (length more) k buffer in
+      sym (drop-drop (length more) k (overwritten buffer at bytes))
+      ∙ ap (drop (length more)) (ap (drop k) whole ∙ drop-at front (drop k buffer) k long)
+      ∙ drop-drop (length more) k buffer in
       let end : k + length more ≡ at + length (bytes ++ more) = let p = length-append bytes more in omega arith in
       ap (λ ys. ys ++ (more ++ drop (k + length more) (overwritten buffer at bytes))) taken
       ∙ ap (λ ys. front ++ (more ++ ys)) left
@@ -70,7 +70,7 @@ pub overwritten-two : (buffer : List ℕ) (at a b : ℕ) → at + 1 < length buf
 overwritten-two buffer at a b l =
     let z : at + 0 ≡ at = omega arith in
     let one : set buffer at a ≡ overwritten buffer at (a ∷ []) =
-          ap (λ xs. set xs at a) (overwritten-none buffer at) ∙ ap (λ k. set (overwritten buffer at []) k a) (sym z) ∙ overwritten-more buffer at [] a (omega arith) in
+    ap (λ xs. set xs at a) (overwritten-none buffer at) ∙ ap (λ k. set (overwritten buffer at []) k a) (sym z) ∙ overwritten-more buffer at [] a (omega arith) in
     ap (λ xs. set xs (at + 1) b) one ∙ overwritten-more buffer at (a ∷ []) b l
 
 -- what was written at the start of a buffer

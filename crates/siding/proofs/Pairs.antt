@@ -40,5 +40,5 @@ pub pairs-more : (f : ℕ → ℕ) (n : ℕ) → pairs f 0 n ++ two-bytes (f n) 
 unfolding pairs
 pairs-more f n =
     let more : counting 0 (n + 1) ≡ counting 0 n ++ n ∷ [] =
-          sym (map-id (counting 0 (n + 1))) ∙ map-counting-more (λ x. x) 0 n n (omega arith) ∙ ap (λ xs. xs ++ n ∷ []) (map-id (counting 0 n)) in
+    sym (map-id (counting 0 (n + 1))) ∙ map-counting-more (λ x. x) 0 n n (omega arith) ∙ ap (λ xs. xs ++ n ∷ []) (map-id (counting 0 n)) in
     joined-more (λ s. two-bytes (f s)) [] (counting 0 n) n ∙ ap (joined (λ s. two-bytes (f s))) (sym more)

@@ -150,12 +150,12 @@ judged-passed false false false None None true y x e =
 abbrev Accepted : List ℕ → Type 0
 Accepted bytes =
     Passed
-      (ltb (length bytes) 4)
-      (eqb (sections-of bytes) 0 || ltb 512 (sections-of bytes))
-      (not (eqb (length bytes) (sheet-size (sections-of bytes))))
-      (lowest (inner-at-fault bytes) (sections-of bytes))
-      (lowest (mark-at-fault bytes) (sections-of bytes))
-      (eqb (wagons-stated bytes) (total (sections-of bytes) (described bytes .wagons)))
+    (ltb (length bytes) 4)
+    (eqb (sections-of bytes) 0 || ltb 512 (sections-of bytes))
+    (not (eqb (length bytes) (sheet-size (sections-of bytes))))
+    (lowest (inner-at-fault bytes) (sections-of bytes))
+    (lowest (mark-at-fault bytes) (sections-of bytes))
+    (eqb (wagons-stated bytes) (total (sections-of bytes) (described bytes .wagons)))
 
 accepted-drawn : (bytes : List ℕ) → Accepted bytes → drawn bytes ≡ Ok (described bytes)
 unfolding drawn
@@ -183,9 +183,9 @@ pub record Written-out (x : State) : Type 0 where
 no-fault : (s v : ℕ) → (s ≡ 0 → v ≡ 0) → (0 < s → v < s) → cond (eqb s 0) (not (eqb v 0)) (leb s v) ≡ false
 no-fault s v neck lower =
     ⊎-elim
-      (λ (e : s ≡ 0). let z = neck e in grind (arith, tells))
-      (λ (ne : s ≡ 0 → ⊥). let z : v < s = lower (omega arith) in grind (arith, tells))
-      (cases-eq s 0)
+    (λ (e : s ≡ 0). let z = neck e in grind (arith, tells))
+    (λ (ne : s ≡ 0 → ⊥). let z : v < s = lower (omega arith) in grind (arith, tells))
+    (cases-eq s 0)
 
 -- an array is drawn up again from numbers that are its entries
 array-again : (m n : ℕ) (f : ℕ → ℕ) (xs : List ℕ) → m ≡ n → n ≤ 512 → length xs ≡ 512 → Clear n xs → ((s : ℕ) → s < n → f s ≡ getD xs s 0) → slots m f ≡ xs
@@ -212,17 +212,17 @@ module _ (x : State) (out : Written-out x) where
   inner-again : described (sheetOf x) .inner ≡ x .inner
   inner-again =
       array-again _ (x .sections) (inner-of (sheetOf x)) (x .inner) (reads-sections x) (out .most) (out .long-inner) (out .clear-inner)
-        (reads-inner x)
+      (reads-inner x)
 
   wagons-again : described (sheetOf x) .wagons ≡ x .wagons
   wagons-again =
       array-again _ (x .sections) (λ s. mark-of (sheetOf x) s % 2) (x .wagons) (reads-sections x) (out .most) (out .long-wagons) (out .clear-wagons)
-        (λ s l. mark-tells s l .1)
+      (λ s l. mark-tells s l .1)
 
   berths-again : described (sheetOf x) .berths ≡ x .berths
   berths-again =
       array-again _ (x .sections) (λ s. mark-of (sheetOf x) s / 2) (x .berths) (reads-sections x) (out .most) (out .long-berths) (out .clear-berths)
-        (λ s l. mark-tells s l .2)
+      (λ s l. mark-tells s l .2)
 
   described-again : described (sheetOf x) ≡ page-begun x
   unfolding begun
@@ -238,14 +238,14 @@ module _ (x : State) (out : Written-out x) where
         in-range = or-from _ _ (ne-eqb (sections-of bytes) 0 (omega (arith, out .some))) (le-ltb 512 (sections-of bytes) (omega (arith, out .most)));
         exact = not-from-true _ (eq-eqb (length bytes) (sheet-size (sections-of bytes)) (long ∙ ap sheet-size (sym n)));
         no-inner = clean-lowest (inner-at-fault bytes) (sections-of bytes) (λ s l.
-          let m : s < x .sections = omega arith in
-          let e = reads-inner x s m in
-          no-fault s (inner-of bytes s)
+            let m : s < x .sections = omega arith in
+            let e = reads-inner x s m in
+            no-fault s (inner-of bytes s)
             (λ z. e ∙ ap (λ t. getD (x .inner) t 0) z ∙ out .tree .neck)
             (λ p. omega (arith, out .tree .lower s p m)));
         no-mark = clean-lowest (mark-at-fault bytes) (sections-of bytes) (λ s l. le-ltb 3 (mark-of bytes s) (mark-tells s (omega arith) .0));
         counted = eq-eqb (wagons-stated bytes) (total (sections-of bytes) (described bytes .wagons))
-          (reads-wagons x ∙ ap (total (x .sections)) (sym wagons-again) ∙ ap (λ k. total k (described bytes .wagons)) (sym n))
+            (reads-wagons x ∙ ap (total (x .sections)) (sym wagons-again) ∙ ap (λ k. total k (described bytes .wagons)) (sym n));
       }
 
 -- a siding that is written and drawn up again is the same siding with a fresh page
@@ -292,21 +292,21 @@ module _ (bytes : List ℕ) (small : (k : ℕ) → getD bytes k 0 < 256) (ok : A
   byte-again : (k : ℕ) → k < sheet-size (sections-of bytes) → Again k
   byte-again k l =
       ⊎-elim
-        (λ (a : k < 4). front-again k a)
-        (λ (a : 4 ≤ k).
-          ⊎-elim
-            (λ (b : k < 4 + 2 * sections-of bytes).
-              let s : ℕ = (k - 4) / 2 in
-              ⊎-elim
-                (λ (e : k ≡ 4 + 2 * s). rw e (high-again s (omega arith)))
-                (λ (ne : k ≡ 4 + 2 * s → ⊥). let e : k ≡ 4 + 2 * s + 1 = omega arith in rw e (low-again s (omega arith)))
-                (cases-eq k (4 + 2 * s)))
-            (λ (b : 4 + 2 * sections-of bytes ≤ k).
-              let s : ℕ = k - (4 + 2 * sections-of bytes) in
-              let e : k ≡ 4 + 2 * sections-of bytes + s = omega arith in
-              rw e (mark-again s (omega arith)))
-            (cases-lt k (4 + 2 * sections-of bytes)))
-        (cases-lt k 4)
+      (λ (a : k < 4). front-again k a)
+      (λ (a : 4 ≤ k).
+      ⊎-elim
+      (λ (b : k < 4 + 2 * sections-of bytes).
+      let s : ℕ = (k - 4) / 2 in
+      ⊎-elim
+      (λ (e : k ≡ 4 + 2 * s). rw e (high-again s (omega arith)))
+      (λ (ne : k ≡ 4 + 2 * s → ⊥). let e : k ≡ 4 + 2 * s + 1 = omega arith in rw e (low-again s (omega arith)))
+      (cases-eq k (4 + 2 * s)))
+      (λ (b : 4 + 2 * sections-of bytes ≤ k).
+      let s : ℕ = k - (4 + 2 * sections-of bytes) in
+      let e : k ≡ 4 + 2 * sections-of bytes + s = omega arith in
+      rw e (mark-again s (omega arith)))
+      (cases-lt k (4 + 2 * sections-of bytes)))
+      (cases-lt k 4)
 
   described-written : sheetOf (described bytes) ≡ bytes
   described-written =

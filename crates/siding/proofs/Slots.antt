@@ -46,9 +46,9 @@ slots-in n f s most l = slot-is n f s (omega arith) ∙ entry-in n f s l
 pub slots-past : (n : ℕ) (f : ℕ → ℕ) (s : ℕ) → n ≤ 512 → n ≤ s → getD (slots n f) s 0 ≡ 0
 slots-past n f s most l =
     ⊎-elim
-      (λ (k : s < 512). slot-is n f s k ∙ entry-past n f s l)
-      (λ (k : 512 ≤ s). getD-past (slots n f) s 0 (omega (arith, length-slots n f)))
-      (cases-lt s 512)
+    (λ (k : s < 512). slot-is n f s k ∙ entry-past n f s l)
+    (λ (k : 512 ≤ s). getD-past (slots n f) s 0 (omega (arith, length-slots n f)))
+    (cases-lt s 512)
 
 -- a loop over the sections fills the slots: its start, and one more
 pub slots-none : (f : ℕ → ℕ) → replicate 512 0 ≡ slots 0 f
@@ -59,33 +59,33 @@ pub slots-more : (f : ℕ → ℕ) (xs : List ℕ) (k : ℕ) → k < 512 → xs 
 slots-more f xs k l e =
     let long : length xs ≡ 512 = ap length e ∙ length-slots k f in
     all-slots (k + 1) f (set xs k (f k)) (length-set xs k (f k) ∙ long) (λ s m.
-      ⊎-elim
-        (λ (same : s ≡ k).
-          ap (λ t. getD (set xs k (f k)) t 0) same ∙ getD-set-same xs k (f k) 0 (omega arith)
-          ∙ ap f (sym same) ∙ sym (entry-in (k + 1) f s (omega arith)))
-        (λ (other : s ≡ k → ⊥).
-          getD-set-other xs k s (f k) 0 other ∙ ap (λ ys. getD ys s 0) e ∙ slot-is k f s m
-          ∙ ⊎-elim
-              (λ (low : s < k). entry-in k f s low ∙ sym (entry-in (k + 1) f s (omega arith)))
-              (λ (high : k ≤ s). entry-past k f s high ∙ sym (entry-past (k + 1) f s (omega arith)))
-              (cases-lt s k))
-        (cases-eq s k))
+    ⊎-elim
+    (λ (same : s ≡ k).
+    ap (λ t. getD (set xs k (f k)) t 0) same ∙ getD-set-same xs k (f k) 0 (omega arith)
+    ∙ ap f (sym same) ∙ sym (entry-in (k + 1) f s (omega arith)))
+    (λ (other : s ≡ k → ⊥).
+    getD-set-other xs k s (f k) 0 other ∙ ap (λ ys. getD ys s 0) e ∙ slot-is k f s m
+    ∙ ⊎-elim
+    (λ (low : s < k). entry-in k f s low ∙ sym (entry-in (k + 1) f s (omega arith)))
+    (λ (high : k ≤ s). entry-past k f s high ∙ sym (entry-past (k + 1) f s (omega arith)))
+    (cases-lt s k))
+    (cases-eq s k))
 
 -- only the entries of the sections play a part
 pub slots-same : (n : ℕ) (f g : ℕ → ℕ) → ((s : ℕ) → s < n → f s ≡ g s) → slots n f ≡ slots n g
 slots-same n f g same =
     all-slots n g (slots n f) (length-slots n f) (λ s l.
-      slot-is n f s l
-      ∙ ⊎-elim
-          (λ (low : s < n). entry-in n f s low ∙ same s low ∙ sym (entry-in n g s low))
-          (λ (high : n ≤ s). entry-past n f s high ∙ sym (entry-past n g s high))
-          (cases-lt s n))
+    slot-is n f s l
+    ∙ ⊎-elim
+    (λ (low : s < n). entry-in n f s low ∙ same s low ∙ sym (entry-in n g s low))
+    (λ (high : n ≤ s). entry-past n f s high ∙ sym (entry-past n g s high))
+    (cases-lt s n))
 
 -- an array that holds 0 past the sections has its own entries in its slots
 pub slots-is : (n : ℕ) (xs : List ℕ) → n ≤ 512 → length xs ≡ 512 → Clear n xs → xs ≡ slots n (λ s. getD xs s 0)
 slots-is n xs most long clear =
     all-slots n (λ s. getD xs s 0) xs long (λ s l.
-      ⊎-elim
-        (λ (low : s < n). sym (entry-in n (λ t. getD xs t 0) s low))
-        (λ (high : n ≤ s). clear s high ∙ sym (entry-past n (λ t. getD xs t 0) s high))
-        (cases-lt s n))
+    ⊎-elim
+    (λ (low : s < n). sym (entry-in n (λ t. getD xs t 0) s low))
+    (λ (high : n ≤ s). clear s high ∙ sym (entry-past n (λ t. getD xs t 0) s high))
+    (cases-lt s n))

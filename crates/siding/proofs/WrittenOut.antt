@@ -20,25 +20,24 @@ use Rattle.siding.proofs.RoundTrip.{Written-out, written-drawn, sheet-length}
 -- what a siding keeps is what its sheet needs
 pub writable : (x : Siding) → Written-out (stateOf x)
 writable x = record {
-    some = x .some;
-    most = x .most;
-    tree = record { neck = x .neck; lower = x .lower };
-    one-wagon = x .«one_wagon»;
-    one-berth = x .«one_berth»;
-    long-inner = x .long .0;
-    long-wagons = x .long .1;
-    long-berths = x .long .2;
-    clear-inner = x .clear .0;
-    clear-wagons = x .clear .1;
-    clear-berths = x .clear .2;
-  }
+  some = x .some;
+  most = x .most;
+  tree = record { neck = x .neck; lower = x .lower };
+  one-wagon = x .«one_wagon»;
+  one-berth = x .«one_berth»;
+  long-inner = x .long .0;
+  long-wagons = x .long .1;
+  long-berths = x .long .2;
+  clear-inner = x .clear .0;
+  clear-wagons = x .clear .1;
+  clear-berths = x .clear .2;
+}
 
 module _ (x : State) (old one two three four : List ℕ) (room : 4 + 3 * x .sections ≤ length old)
-  (first : one ≡ overwritten old 0 (two-bytes (x .sections)))
-  (second : two ≡ overwritten one 2 (two-bytes (total (x .sections) (x .wagons))))
-  (third : three ≡ overwritten two 4 (joined (λ s. two-bytes (getD (x .inner) s 0)) (counting 0 (x .sections))))
-  (fourth : four ≡ overwritten three (4 + 2 * x .sections) (map (mark x) (counting 0 (x .sections)))) where
-
+    (first : one ≡ overwritten old 0 (two-bytes (x .sections)))
+    (second : two ≡ overwritten one 2 (two-bytes (total (x .sections) (x .wagons))))
+    (third : three ≡ overwritten two 4 (joined (λ s. two-bytes (getD (x .inner) s 0)) (counting 0 (x .sections))))
+    (fourth : four ≡ overwritten three (4 + 2 * x .sections) (map (mark x) (counting 0 (x .sections)))) where
   head : List ℕ
   head = two-bytes (x .sections) ++ two-bytes (total (x .sections) (x .wagons))
 
@@ -68,5 +67,5 @@ module _ (x : State) (old one two three four : List ℕ) (room : 4 + 3 * x .sect
 pub read-back : (x : Siding) (old new : List ℕ) (size : ℕ) → size ≡ 4 + 3 * x .sections → new ≡ overwritten old 0 (sheetOf (stateOf x)) → drawn (take size new) ≡ Ok (page-begun (stateOf x))
 read-back x old new size long e =
     let whole : take size new ≡ sheetOf (stateOf x) =
-          ap (take size) e ∙ ap (λ k. take k (overwritten old 0 (sheetOf (stateOf x)))) (long ∙ sym (sheet-length (stateOf x))) ∙ take-overwritten old (sheetOf (stateOf x)) in
+    ap (take size) e ∙ ap (λ k. take k (overwritten old 0 (sheetOf (stateOf x)))) (long ∙ sym (sheet-length (stateOf x))) ∙ take-overwritten old (sheetOf (stateOf x)) in
     ap drawn whole ∙ written-drawn (stateOf x) (writable x)

@@ -63,14 +63,14 @@ slots n entry = map (λ s. cond (ltb s n) (entry s) 0) (counting 0 512)
 -- the siding that the entries and marks of a sheet describe, with a page just begun
 abbrev pub described : List ℕ → State
 described bytes = page-begun (record {
-    sections = sections-of bytes;
-    inner = slots (sections-of bytes) (inner-of bytes);
-    wagons = slots (sections-of bytes) (λ s. mark-of bytes s % 2);
-    berths = slots (sections-of bytes) (λ s. mark-of bytes s / 2);
-    head = 0;
-    moves = 0;
-    away = 0;
-  })
+  sections = sections-of bytes;
+  inner = slots (sections-of bytes) (inner-of bytes);
+  wagons = slots (sections-of bytes) (λ s. mark-of bytes s % 2);
+  berths = slots (sections-of bytes) (λ s. mark-of bytes s / 2);
+  head = 0;
+  moves = 0;
+  away = 0;
+})
 
 -- refused with the section that is at fault, if there is one
 abbrev pub unless-at-fault : Option ℕ → (ℕ → Refusal) → Result State Refusal → Result State Refusal
@@ -86,8 +86,8 @@ drawn bytes =
     (unless-at-fault (lowest (inner-at-fault bytes) (sections-of bytes)) InnerNotLower
     (unless-at-fault (lowest (mark-at-fault bytes) (sections-of bytes)) MarkTooLarge
     (cond (eqb (wagons-stated bytes) (total (sections-of bytes) (described bytes .wagons)))
-        (Ok (described bytes))
-        (Err WagonsMiscounted))))))
+    (Ok (described bytes))
+    (Err WagonsMiscounted))))))
 
 -- a sheet of a size that a siding has
 pub record Sized (bytes : List ℕ) (n : ℕ) : Type 0 where

@@ -12,14 +12,14 @@ use Rattle.siding.specs.declared.siding.Siding.{Siding}
 
 abbrev pub stateOf : Siding → State
 stateOf x = record {
-    sections = x .sections;
-    inner = x .inner;
-    wagons = x .wagons;
-    berths = x .berths;
-    head = x .head;
-    moves = x .moves;
-    away = x .away;
-  }
+  sections = x .sections;
+  inner = x .inner;
+  wagons = x .wagons;
+  berths = x .berths;
+  head = x .head;
+  moves = x .moves;
+  away = x .away;
+}
 
 -- the siding of a tree, with wagons and berths, on a page that holds nothing yet
 abbrev pub standing : ℕ → List ℕ → List ℕ → List ℕ → State

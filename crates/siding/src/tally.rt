@@ -37,7 +37,12 @@ fn own_demands(n: usize, wagons: &[u8; 512], berths: &[u8; 512]) -> [i16; 512]
 }
 
 // The demand of each section, from the highest number down: what a section has is added to its inner neighbour's.
-pub(crate) fn demands(n: usize, inner: &[u16; 512], wagons: &[u8; 512], berths: &[u8; 512]) -> [i16; 512]
+pub(crate) fn demands(
+    n: usize,
+    inner: &[u16; 512],
+    wagons: &[u8; 512],
+    berths: &[u8; 512],
+) -> [i16; 512]
     requires most { ⌜ n ≤ 512 ⌝ }
     requires tree { ⌜ Tree n (now inner) ⌝ }
     requires one_wagon { ⌜ Single n (now wagons) ⌝ }
@@ -55,7 +60,13 @@ pub(crate) fn demands(n: usize, inner: &[u16; 512], wagons: &[u8; 512], berths: 
 }
 
 // The sum of the demands without their signs, over all sections but the neck.
-pub(crate) fn figure_of(n: usize, inner: &[u16; 512], wagons: &[u8; 512], berths: &[u8; 512], demand: &[i16; 512]) -> u32
+pub(crate) fn figure_of(
+    n: usize,
+    inner: &[u16; 512],
+    wagons: &[u8; 512],
+    berths: &[u8; 512],
+    demand: &[i16; 512],
+) -> u32
     requires some { ⌜ 1 ≤ n ⌝ }
     requires most { ⌜ n ≤ 512 ⌝ }
     requires one_wagon { ⌜ Single n (now wagons) ⌝ }

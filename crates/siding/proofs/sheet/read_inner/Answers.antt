@@ -12,6 +12,7 @@ loop-s-holds c = (refl, slots-none (inner-of (c .args .sheet .now)))
 pub loop-s-again : need.loop-s-again
 loop-s-again c =
     let s = c .loop-s .s in
-    let inner = c .loop-s .inner in
-    (simp length-set (c .loop-s .inv .0),
-     ap (set inner s) (c .word-at .ensures) ∙ slots-more (inner-of (c .args .sheet .now)) inner s (omega (arith, c .pre .most)) (c .loop-s .inv .1))
+    let inner = c .loop-s .inner in (
+      simp length-set (c .loop-s .inv .0),
+      ap (set inner s) (c .word-at .ensures) ∙ slots-more (inner-of (c .args .sheet .now)) inner s (omega (arith, c .pre .most)) (c .loop-s .inv .1),
+    )

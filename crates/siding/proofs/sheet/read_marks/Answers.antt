@@ -17,7 +17,9 @@ loop-s-again c =
     let s = c .loop-s .s in
     let sheet = c .args .sheet .now in
     let at = mark-at sheet (c .args .n) s (c .pre) in
-    let in-slots : s < 512 = omega (arith, c .pre .most) in
-    (simp length-set (c .loop-s .inv .0), simp length-set (c .loop-s .inv .1),
-     ap (λ m. set (c .loop-s .wagons) s (m % 2)) at ∙ slots-more (λ t. mark-of sheet t % 2) (c .loop-s .wagons) s in-slots (c .loop-s .inv .2),
-     ap (λ m. set (c .loop-s .berths) s (m / 2)) at ∙ slots-more (λ t. mark-of sheet t / 2) (c .loop-s .berths) s in-slots (c .loop-s .inv .3))
+    let in-slots : s < 512 = omega (arith, c .pre .most) in (
+      simp length-set (c .loop-s .inv .0),
+      simp length-set (c .loop-s .inv .1),
+      ap (λ m. set (c .loop-s .wagons) s (m % 2)) at ∙ slots-more (λ t. mark-of sheet t % 2) (c .loop-s .wagons) s in-slots (c .loop-s .inv .2),
+      ap (λ m. set (c .loop-s .berths) s (m / 2)) at ∙ slots-more (λ t. mark-of sheet t / 2) (c .loop-s .berths) s in-slots (c .loop-s .inv .3),
+    )

@@ -13,7 +13,7 @@ pub returns-then-n-eq0 : need.returns-then-n-eq0
 returns-then-n-eq0 c =
     let n : c .word-at-n .result ≡ sections-of (c .args .sheet .now) = c .word-at-n .ensures in
     drawn-size (c .args .sheet .now) (c .if-sheet-lt4 .left)
-      (⊎-elim (λ z. inl (sym n ∙ z)) (λ l. inr (omega (arith, l .1))) (c .then-n-eq0 .either))
+    (⊎-elim (λ z. inl (sym n ∙ z)) (λ l. inr (omega (arith, l .1))) (c .then-n-eq0 .either))
 
 pub returns-then-sheet-n : need.returns-then-sheet-n
 returns-then-sheet-n c =

@@ -11,10 +11,12 @@ pub loop-s-holds : need.loop-s-holds
 loop-s-holds c = (refl, refl, linked-none (c .args .n) (c .args .inner .now) (replicate 512 0) (replicate 512 0) (blank 512 0) (blank 512 0))
 
 pub loop-s-again : need.loop-s-again
-loop-s-again c =
-    (simp length-set (c .loop-s .inv .0), simp length-set (c .loop-s .inv .1),
-     linked-more (c .loop-s .s) (c .args .n) (c .args .inner .now) (c .loop-s .first) (c .loop-s .next) (c .pre .tree)
-       (c .loop-s-test .taken) (c .loop-s .kept .s) (omega arith) (omega arith) (c .loop-s .inv .2))
+loop-s-again c = (
+  simp length-set (c .loop-s .inv .0),
+  simp length-set (c .loop-s .inv .1),
+  linked-more (c .loop-s .s) (c .args .n) (c .args .inner .now) (c .loop-s .first) (c .loop-s .next) (c .pre .tree)
+      (c .loop-s-test .taken) (c .loop-s .kept .s) (omega arith) (omega arith) (c .loop-s .inv .2),
+)
 
 pub returns : need.returns
 returns c =

@@ -18,7 +18,7 @@ size-of z d r is e small = let f = ap natAbs e in omega (arith, ints)
 -- what a turn adds is the demand of its section, without its sign
 added : (c : need.After-from-sum) →
     (c .from-sum .result ≡ natAbs (demandOf (c .args .n) (c .args .inner .now) (c .args .wagons .now) (c .args .berths .now) (c .loop-s .s)))
-  × (c .from-sum .result ≤ 512)
+    × (c .from-sum .result ≤ 512)
 added c =
     let s : ℕ = c .loop-s .s in
     let small = demands-within (c .args .n) (c .args .inner .now) (c .args .wagons .now) (c .args .berths .now) (c .pre .most) (c .pre .one-wagon) (c .pre .one-berth) s in
@@ -37,12 +37,13 @@ loop-s-again c =
     let d : ℕ → ℤ = demandOf (c .args .n) (c .args .inner .now) (c .args .wagons .now) (c .args .berths .now) in
     let one : s - 1 + 1 ≡ s = omega arith in
     let more : sumTo (λ k. natAbs (d (k + 1))) s ≡ sumTo (λ k. natAbs (d (k + 1))) (s - 1) + natAbs (d s) =
-          ap (sumTo (λ k. natAbs (d (k + 1)))) (sym one) ∙ sum-more (λ k. natAbs (d (k + 1))) (s - 1) ∙ ap (λ v. sumTo (λ k. natAbs (d (k + 1))) (s - 1) + natAbs (d v)) one in
+    ap (sumTo (λ k. natAbs (d (k + 1)))) (sym one) ∙ sum-more (λ k. natAbs (d (k + 1))) (s - 1) ∙ ap (λ v. sumTo (λ k. natAbs (d (k + 1))) (s - 1) + natAbs (d v)) one in
     let back : s + 1 - 1 ≡ s = omega arith in
     let a = added c .0 in
-    let b = added c .1 in
-    (ap (λ v. v + c .from-sum .result) (c .loop-s .inv .0) ∙ ap (λ v. sumTo (λ k. natAbs (d (k + 1))) (s - 1) + v) a ∙ sym more ∙ ap (sumTo (λ k. natAbs (d (k + 1)))) (sym back),
-     omega arith)
+    let b = added c .1 in (
+      ap (λ v. v + c .from-sum .result) (c .loop-s .inv .0) ∙ ap (λ v. sumTo (λ k. natAbs (d (k + 1))) (s - 1) + v) a ∙ sym more ∙ ap (sumTo (λ k. natAbs (d (k + 1)))) (sym back),
+      omega arith,
+    )
 
 pub returns : need.returns
 unfolding figureOf

@@ -8,4 +8,4 @@ use Rattle.siding.proofs.tally.figure_of.Given as given
 abbrev pub Inv-loop-s : given.InvT-loop-s
 Inv-loop-s l =
     (l .sum ≡ sumTo (λ k. natAbs (demandOf (l .n) (l .inner) (l .wagons) (l .berths) (k + 1))) (l .s - 1))
-  × (l .sum ≤ (l .s - 1) * 512)
+    × (l .sum ≤ (l .s - 1) * 512)

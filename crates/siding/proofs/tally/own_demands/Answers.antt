@@ -21,9 +21,10 @@ loop-s-again c =
     let e : ℤ = toZ w16 (ofZ w16 (toZ w16 (ofZ w16 (c .from .result)) -ℤ toZ w16 (ofZ w16 (c .from-in-loop-s .result)))) in
     let b = c .pre .one-berth i (omega arith) in
     let w = c .pre .one-wagon i (omega arith) in
-    let is : e ≡ pos (getD (c .args .berths .now) i 0) -ℤ pos (getD (c .args .wagons .now) i 0) = omega (arith, ints) in
-    (simp length-set (c .loop-s .inv .0),
-    below-more _ _
-      (λ u h. let ne : u ≢ i = omega arith in getD-set-other (c .loop-s .demand) i u e (pos 0) ne ∙ c .loop-s .inv .1 u h)
-      (getD-set-same (c .loop-s .demand) i e (pos 0) (omega arith) ∙ is),
-    λ u h. let ne : u ≢ i = omega arith in getD-set-other (c .loop-s .demand) i u e (pos 0) ne ∙ c .loop-s .inv .2 u (omega arith))
+    let is : e ≡ pos (getD (c .args .berths .now) i 0) -ℤ pos (getD (c .args .wagons .now) i 0) = omega (arith, ints) in (
+      simp length-set (c .loop-s .inv .0),
+      below-more _ _
+          (λ u h. let ne : u ≢ i = omega arith in getD-set-other (c .loop-s .demand) i u e (pos 0) ne ∙ c .loop-s .inv .1 u h)
+          (getD-set-same (c .loop-s .demand) i e (pos 0) (omega arith) ∙ is),
+      λ u h. let ne : u ≢ i = omega arith in getD-set-other (c .loop-s .demand) i u e (pos 0) ne ∙ c .loop-s .inv .2 u (omega arith),
+    )

@@ -8,5 +8,5 @@ use Rattle.siding.proofs.tally.own_demands.Given as given
 abbrev pub Inv-loop-s : given.InvT-loop-s
 Inv-loop-s l =
     (length (l .demand) ≡ 512)
-  × ((u : ℕ) → u < l .s → getD (l .demand) u (pos 0) ≡ pos (getD (l .berths) u 0) -ℤ pos (getD (l .wagons) u 0))
-  × Clear-demands (l .s) (l .demand)
+    × ((u : ℕ) → u < l .s → getD (l .demand) u (pos 0) ≡ pos (getD (l .berths) u 0) -ℤ pos (getD (l .wagons) u 0))
+    × Clear-demands (l .s) (l .demand)

@@ -34,17 +34,18 @@ fresh-next-requires c κs =
 
 pub returns-then-next-word-at : need.returns-then-next-word-at
 returns-then-next-word-at c = record {
-  drawn =
-      (not-drawn-up (c .args .sheet .now) (c .in-Continue-n .n) (c .in-Continue-n .ensures tt) _ _ _ (c .read-inner .ensures) (c .read-marks .ensures .wagons) (c .read-marks .ensures .berths)
-         (c .fresh-next .result) (c .fresh-next .ensures) (λ e. c .if-next-word-at .taken (e ∙ sym (c .word-at .ensures))),
-       refl);
+  drawn = (
+    not-drawn-up (c .args .sheet .now) (c .in-Continue-n .n) (c .in-Continue-n .ensures tt) _ _ _ (c .read-inner .ensures) (c .read-marks .ensures .wagons) (c .read-marks .ensures .berths)
+        (c .fresh-next .result) (c .fresh-next .ensures) (λ e. c .if-next-word-at .taken (e ∙ sym (c .word-at .ensures))),
+    refl,
+  );
   sheet-round-trip = tt;
 }
 
 pub returns : need.returns
 returns c =
     let done = drawn-up (c .args .sheet .now) (c .in-Continue-n .n) (c .in-Continue-n .ensures tt) _ _ _ (c .read-inner .ensures) (c .read-marks .ensures .wagons) (c .read-marks .ensures .berths)
-          (c .fresh-next .result) (c .fresh-next .ensures) (c .if-next-word-at .left ∙ c .word-at .ensures) in
+    (c .fresh-next .result) (c .fresh-next .ensures) (c .if-next-word-at .left ∙ c .word-at .ensures) in
     record {
       drawn = done;
       sheet-round-trip = drawn-written (c .args .sheet .now) (λ k. c .typed .sheet k .fits) _ done;
