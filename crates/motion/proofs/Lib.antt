@@ -2,5 +2,8 @@ pub mod Sums
 pub mod Underneath
 pub mod Splits
 pub mod Bounds
-pub mod Runs
 pub mod Gathered
+pub mod Changed
+pub mod Runs
+pub mod Crossings
+pub mod Floors

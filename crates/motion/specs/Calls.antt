@@ -1,12 +1,36 @@
 -- What calls make of a siding.
 use mathlib.Core.Path.{_≡_}
 use mathlib.Core.List.{List, [], _∷_, _++_}
-use Rattle.motion.specs.State.{State, page-begun, Balances}
+use Prim.Native.Nat.{ℕ, _+_, _<_}
+use lib.Dec.{ltb}
+use lib.ListN.{getD}
+use Rattle.motion.specs.Moves.{one-less, one-more, moved, Legal, one-if}
+use Rattle.motion.specs.State.{State, figure, page-begun, with-wagons, with-berths, most-moves}
+use Rattle.motion.specs.declared.moves.Move.{Move}
 use Rattle.motion.specs.declared.calls.Call.{Call}
-use Rattle.motion.specs.declared.calls.Call.the-variants.{Turn}
+use Rattle.motion.specs.declared.calls.Call.the-variants.{Put, Take, Mark, Unmark, Hand, Turn}
+
+-- after a hand move: one move more on the page, and one away move more exactly if the figure is greater than before
+abbrev pub hand-moved : State → Move → State
+hand-moved x m =
+    let y : State = with-wagons x (moved (x .wagons) m) in
+    record {
+      sections = x .sections;
+      inner = x .inner;
+      wagons = y .wagons;
+      berths = x .berths;
+      head = x .head;
+      moves = x .moves + 1;
+      away = x .away + one-if (ltb (figure x) (figure y));
+    }
 
 -- what a call that is done makes of the siding
 abbrev pub Does : Call → State → State → Type 0
+Does (Put s) x y = (s < x .sections) × (getD (x .wagons) s 0 ≡ 0) × (y ≡ page-begun (with-wagons x (one-more (x .wagons) s)))
+Does (Take s) x y = (s < x .sections) × (0 < getD (x .wagons) s 0) × (y ≡ page-begun (with-wagons x (one-less (x .wagons) s)))
+Does (Mark s) x y = (s < x .sections) × (getD (x .berths) s 0 ≡ 0) × (y ≡ page-begun (with-berths x (one-more (x .berths) s)))
+Does (Unmark s) x y = (s < x .sections) × (0 < getD (x .berths) s 0) × (y ≡ page-begun (with-berths x (one-less (x .berths) s)))
+Does (Hand m) x y = Legal (x .sections) (x .inner) (x .wagons) m × (x .moves < most-moves) × (y ≡ hand-moved x m)
 Does Turn x y = y ≡ page-begun x
 
 -- one call: it is done; or there is nothing that it could make, and it is refused and changes nothing
@@ -37,4 +61,4 @@ Some-end = (calls : List Call) (x : State) → (y : State) × After calls x y
 abbrev pub Every-split : Type 0
 Every-split =
     (before : List Call) (c : Call) (after : List Call) (entry exit : State) → After (before ++ (c ∷ after)) entry exit
-    → (x : State) × (y : State) × Passing before c after entry x y exit
+  → (x : State) × (y : State) × Passing before c after entry x y exit

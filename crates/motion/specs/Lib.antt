@@ -1,4 +1,6 @@
 pub mod Tree
 pub mod Demand
+pub mod Moves
 pub mod State
 pub mod Calls
+pub mod Floor

@@ -19,6 +19,33 @@ pub record State : Type 0 where
 abbrev pub figure : State → ℕ
 figure x = figureOf (x .sections) (x .inner) (x .wagons) (x .berths)
 
+-- the same siding with other wagons, or other berths
+abbrev pub with-wagons : State → List ℕ → State
+with-wagons x wagons = record {
+  sections = x .sections;
+  inner = x .inner;
+  wagons = wagons;
+  berths = x .berths;
+  head = x .head;
+  moves = x .moves;
+  away = x .away;
+}
+
+abbrev pub with-berths : State → List ℕ → State
+with-berths x berths = record {
+  sections = x .sections;
+  inner = x .inner;
+  wagons = x .wagons;
+  berths = berths;
+  head = x .head;
+  moves = x .moves;
+  away = x .away;
+}
+
+-- the most moves of a page
+abbrev pub most-moves : ℕ
+most-moves = 500000
+
 -- a page is begun: its head is the figure of that moment
 abbrev pub page-begun : State → State
 page-begun x = record {

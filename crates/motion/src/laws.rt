@@ -3,6 +3,7 @@ ghost use mathlib.Core.Path.{_≡_};
 ghost use Prim.Native.Nat.{_*_};
 ghost use Rattle.motion.specs.Demand.{Below-is-tested, Sum-below-splits, Demands-within, Figures-within};
 ghost use Rattle.motion.specs.Calls.{One-end, Some-end, Every-split};
+ghost use Rattle.motion.specs.Floor.{One-demand-changes, Crossings-balance, Figure-is-a-floor};
 
 // The largest demand of a section, and without its sign the smallest.
 pub fn largest_demand() -> u16
@@ -24,6 +25,15 @@ pub fn largest_figure() -> u32
 pub fn sums_stand() -> u8
     ensures below_is_tested { λ _. ⌜ Below-is-tested ⌝ }
     ensures sum_below_splits { λ _. ⌜ Sum-below-splits ⌝ }
+{
+    0
+}
+
+// What moves do to the demands, and that no filling list is shorter than the figure.
+pub fn moves_stand() -> u8
+    ensures one_demand_changes { λ _. ⌜ One-demand-changes ⌝ }
+    ensures crossings_balance { λ _. ⌜ Crossings-balance ⌝ }
+    ensures figure_is_a_floor { λ _. ⌜ Figure-is-a-floor ⌝ }
 {
     0
 }
