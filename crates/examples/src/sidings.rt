@@ -1,8 +1,12 @@
 // Sidings, read and written.
 use motion::calls::Call;
 use planning::account::Account;
+use planning::account::AccountDebug;
+use planning::account::AccountPartialEq;
 use planning::replay::replay;
 use refusal::Refusal;
+use refusal::RefusalDebug;
+use refusal::RefusalPartialEq;
 use siding::Siding;
 use std::test::*;
 

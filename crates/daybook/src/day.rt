@@ -1,0 +1,54 @@
+// A day's whole answer.
+ghost use mathlib.Core.Path.{_≡_};
+ghost use mathlib.Core.List.{_++_};
+ghost use Rattle.std.specs.Of.String.{string-bytes};
+ghost use Rattle.std.specs.Vec.{made};
+ghost use Rattle.daybook.specs.Input.{cut};
+ghost use Rattle.daybook.specs.Day.{answered, answers, dayOf};
+use crate::answer::AnswerDisplay;
+use crate::answer::answer_to;
+use crate::input::first_length;
+use crate::input::parted;
+use crate::opening::Opening;
+use crate::opening::OpeningDisplay;
+use crate::opening::open;
+use siding::Siding;
+use std::alloc::AllocError;
+use std::alloc::Global;
+
+// The answer to an input: the opening and, if a siding was drawn up, the answer of each line.
+pub fn day(heap: Global, input: &[u8]) -> Result<String, AllocError>
+    ensures { λ r. ⌜ made r (λ text. string-bytes text ≡ dayOf (now (input .entry))) ⌝ }
+{
+    let mut siding = Siding::bare();
+    let opening = open(&mut siding, input);
+    let mut text = format!(heap, "{opening}\n")?;
+    if let Opening::Drawn { .. } = opening {
+        let (_, lines) = parted(input);
+        answer_lines(&mut text, lines)?;
+    }
+    Ok(text)
+}
+
+// Appends the answer of each line.
+fn answer_lines(text: &mut String, lines: &[u8]) -> Result<(), AllocError>
+    ensures { λ r. ⌜ made r (λ _. string-bytes (now (text .exit)) ≡ string-bytes (now (text .entry)) ++ answers (cut (now (lines .entry)))) ⌝ }
+{
+    let mut rest = lines;
+    while !rest.is_empty() {
+        let (line, after) = rest.split_at(first_length(rest));
+        answer_line(text, line)?;
+        rest = after;
+    }
+    Ok(())
+}
+
+fn answer_line(text: &mut String, line: &[u8]) -> Result<(), AllocError>
+    ensures { λ r. ⌜ made r (λ _. string-bytes (now (text .exit)) ≡ string-bytes (now (text .entry)) ++ answered (now (line .entry))) ⌝ }
+{
+    let answer = answer_to(line);
+    match writeln!(text, "{answer}") {
+        Ok(()) => Ok(()),
+        Err(_) => Err(AllocError),
+    }
+}
