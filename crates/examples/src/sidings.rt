@@ -23,21 +23,21 @@ fn fork_is_read() -> Result<(), Fail> {
     check_eq(siding.head(), 3)?;
     check_eq(siding.moves(), 0)?;
     check_eq(siding.away(), 0)?;
-    check_eq(siding.inner(3), Ok(1))?;
-    check_eq(siding.mark(2), Ok(2))?;
-    check_eq(siding.mark(3), Ok(1))?;
-    check_eq(siding.demand(0), Ok(0))?;
-    check_eq(siding.demand(1), Ok(-1))?;
-    check_eq(siding.demand(2), Ok(1))?;
-    check_eq(siding.demand(3), Ok(-1))
+    check_eq(siding.inner_of(3), Ok(1))?;
+    check_eq(siding.mark_of(2), Ok(2))?;
+    check_eq(siding.mark_of(3), Ok(1))?;
+    check_eq(siding.demand_of(0), Ok(0))?;
+    check_eq(siding.demand_of(1), Ok(-1))?;
+    check_eq(siding.demand_of(2), Ok(1))?;
+    check_eq(siding.demand_of(3), Ok(-1))
 }
 
 #[test]
 fn no_such_section() -> Result<(), Fail> {
     let siding = Siding::bare();
-    check_eq(siding.inner(1), Err(Refusal::NoSection(1)))?;
-    check_eq(siding.mark(65_535), Err(Refusal::NoSection(65_535)))?;
-    check_eq(siding.demand(512), Err(Refusal::NoSection(512)))
+    check_eq(siding.inner_of(1), Err(Refusal::NoSection(1)))?;
+    check_eq(siding.mark_of(65_535), Err(Refusal::NoSection(65_535)))?;
+    check_eq(siding.demand_of(512), Err(Refusal::NoSection(512)))
 }
 
 #[test]

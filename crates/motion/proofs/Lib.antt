@@ -7,3 +7,4 @@ pub mod Changed
 pub mod Runs
 pub mod Crossings
 pub mod Floors
+pub mod Pages

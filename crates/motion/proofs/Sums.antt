@@ -93,3 +93,13 @@ sum-pick f n u l =
     let one : sumTo g n + 0 ≡ sumTo (λ t. 0) n + g u =
     sum-one (λ t. 0) g n u l (λ t k ne. sym (cond-false (eqb u t) (f t) 0 (ne-eqb u t (λ e. ne (sym e))))) in
     omega arith
+
+-- a part is at most the whole
+pub sum-part : (f : ℕ → ℕ) (n i : ℕ) → i < n → f i ≤ sumTo f n
+unfolding sumTo
+sum-part f zero i l = let z : ⊥ = omega arith in absurd z
+sum-part f (suc n) i l =
+    ⊎-elim
+      (λ (e : i ≡ n). let a = ap f e in omega arith)
+      (λ (ne : i ≡ n → ⊥). let ih = sum-part f n i (omega arith) in omega arith)
+      (cases-eq i n)

@@ -9,3 +9,6 @@ pub mod Pairs
 pub mod RoundTrip
 pub mod Overwritten
 pub mod WrittenOut
+pub mod Way
+pub mod Held
+pub mod Stocked

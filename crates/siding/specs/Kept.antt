@@ -1,10 +1,10 @@
 -- What every siding keeps of its arrays. Each has 512 slots; those past the sections hold 0.
 use mathlib.Core.Path.{_≡_}
 use mathlib.Core.List.{List}
-use Prim.Native.Nat.{ℕ, _+_, _<_, _≤_}
-use lib.IntN.{ℤ, pos}
+use Prim.Native.Nat.{ℕ, _+_, _-_, _<_, _≤_}
+use lib.IntN.{ℤ, pos, natAbs}
 use lib.ListN.{getD}
-use Rattle.motion.specs.Tree.{Branch, Sisters}
+use Rattle.motion.specs.Tree.{Branch, Sisters, sumTo}
 use Rattle.motion.specs.Demand.{demandOf}
 
 -- past the sections
@@ -32,3 +32,7 @@ Next-is-lowest n inner next = (b c : ℕ) → Sisters n inner b c → (0 < getD 
 abbrev pub Next-is-branch : ℕ → List ℕ → List ℕ → Type 0
 Next-is-branch n inner next =
     (b : ℕ) → 0 < getD next b 0 → (0 < b) × (b < getD next b 0) × (getD next b 0 < n) × (getD inner (getD next b 0) 0 ≡ getD inner b 0)
+
+-- the sum of stored demands without their signs, over all sections but the neck
+unfoldable pub sizes : ℕ → List ℤ → ℕ
+sizes n demand = sumTo (λ k. natAbs (getD demand (k + 1) (pos 0))) (n - 1)

@@ -1,3 +1,5 @@
 pub mod Kept
 pub mod Sheet
 pub mod Stands
+pub mod Outcome
+pub mod Restock

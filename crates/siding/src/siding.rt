@@ -48,6 +48,7 @@ pub struct Siding {
     ghost page: { moves + figure ≡ head + 2 * away },
 }
 
+mod changes;
 mod drawing;
 mod page;
 mod readings;

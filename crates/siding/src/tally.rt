@@ -1,11 +1,12 @@
 // What is counted from the sections when a siding is drawn up.
 ghost use mathlib.Core.Path.{_≡_};
 ghost use Prim.Native.Nat.{ℕ, _+_, _-_, _*_, _<_, _≤_};
-ghost use lib.IntN.{pos, _-ℤ_};
+ghost use lib.IntN.{pos, natAbs, _+ℤ_, _-ℤ_};
+ghost use mathlib.Core.Bool.{cond};
 ghost use lib.ListN.{length, getD};
-ghost use Rattle.motion.specs.Tree.{Tree, total};
+ghost use Rattle.motion.specs.Tree.{Tree, isBelow, total};
 ghost use Rattle.motion.specs.Demand.{Single, figureOf};
-ghost use Rattle.siding.specs.Kept.{Clear-demands, True-demands, First-is-lowest, First-is-branch, Next-is-lowest, Next-is-branch};
+ghost use Rattle.siding.specs.Kept.{sizes, Clear-demands, True-demands, First-is-lowest, First-is-branch, Next-is-lowest, Next-is-branch};
 
 // How many there are in all sections.
 pub(crate) fn count_all(n: usize, xs: &[u8; 512]) -> u16
@@ -99,4 +100,40 @@ pub(crate) fn branch_links(n: usize, inner: &[u16; 512]) -> ([u16; 512], [u16; 5
         first[p] = s as u16;
     }
     (first, next)
+}
+
+// The figure once one demand has changed.
+pub(crate) fn resized(figure: u32, was: i16, is: i16) -> u32
+    requires part { ⌜ natAbs was ≤ figure ⌝ }
+    requires most { ⌜ figure ≤ 1000000 ⌝ }
+    requires small { ⌜ natAbs is ≤ 1000 ⌝ }
+    ensures { λ r. ⌜ r + natAbs was ≡ figure + natAbs is ⌝ }
+{
+    figure - u32::from(was.unsigned_abs()) + u32::from(is.unsigned_abs())
+}
+
+// Changes the demand by so much at each section on the way inward from `at`, which are those that it lies below,
+// and answers the figure after that.
+pub(crate) fn shift(n: usize, inner: &[u16; 512], demand: &mut [i16; 512], figure: u32, at: usize, by: i16) -> u32
+    requires most { ⌜ n ≤ 512 ⌝ }
+    requires tree { ⌜ Tree n (now inner) ⌝ }
+    requires within { ⌜ at < n ⌝ }
+    requires one { ⌜ natAbs by ≤ 1 ⌝ }
+    requires small { ⌜ ((s : ℕ) → s < n → natAbs (getD (now demand) s (pos 0)) ≤ 512) ⌝ }
+    requires sums { ⌜ figure ≡ sizes n (now demand) ⌝ }
+    ensures long { λ _. ⌜ length (now (demand .exit)) ≡ 512 ⌝ }
+    ensures demands { λ _. ⌜ ((s : ℕ) → s < n → getD (now (demand .exit)) s (pos 0) ≡ getD (now (demand .entry)) s (pos 0) +ℤ cond (isBelow (now (inner .entry)) s at) by (pos 0)) ⌝ }
+    ensures past { λ _. ⌜ ((s : ℕ) → n ≤ s → getD (now (demand .exit)) s (pos 0) ≡ getD (now (demand .entry)) s (pos 0)) ⌝ }
+    ensures figure { λ r. ⌜ r ≡ sizes n (now (demand .exit)) ⌝ }
+{
+    let mut sum = figure;
+    let mut u = at;
+    while u > 0 {
+        let was = demand[u];
+        demand[u] = was + by;
+        sum = resized(sum, was, demand[u]);
+        u = inner[u] as usize;
+    }
+    demand[0] += by;
+    sum
 }

@@ -61,7 +61,7 @@ impl Siding {
     }
 
     // The inner neighbour of a section; 0 for the neck.
-    pub fn inner(&self, section: u16) -> Result<u16, Refusal>
+    pub fn inner_of(&self, section: u16) -> Result<u16, Refusal>
         ensures { λ r. ⌜ r ≡ reading (now (self .entry)) section (getD (stateOf (now (self .entry)) .inner) section 0) ⌝ }
     {
         let s = self.section(section)?;
@@ -69,7 +69,7 @@ impl Siding {
     }
 
     // The mark of a section: 1 for a wagon, plus 2 for a berth.
-    pub fn mark(&self, section: u16) -> Result<u8, Refusal>
+    pub fn mark_of(&self, section: u16) -> Result<u8, Refusal>
         ensures { λ r. ⌜ r ≡ reading (now (self .entry)) section (mark (stateOf (now (self .entry))) section) ⌝ }
     {
         let s = self.section(section)?;
@@ -77,7 +77,7 @@ impl Siding {
     }
 
     // The demand of a section: the berths below it less the wagons below it.
-    pub fn demand(&self, section: u16) -> Result<i16, Refusal>
+    pub fn demand_of(&self, section: u16) -> Result<i16, Refusal>
         ensures { λ r. ⌜ r ≡ reading (now (self .entry)) section (demandOf (stateOf (now (self .entry)) .sections) (stateOf (now (self .entry)) .inner) (stateOf (now (self .entry)) .wagons) (stateOf (now (self .entry)) .berths) section) ⌝ }
     {
         let s = self.section(section)?;
