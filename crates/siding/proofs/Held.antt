@@ -14,6 +14,7 @@ use Rattle.motion.proofs.Sums.{sum-same, sum-part}
 use Rattle.siding.specs.declared.siding.Siding.{Siding}
 use Rattle.siding.specs.Kept.{True-demands, sizes}
 use Rattle.siding.specs.Stands.{reading}
+use Rattle.siding.proofs.Way.{sizes-part}
 use Rattle.std.proofs.shelf.Tests.{ltb-true}
 use Rattle.std.specs.declared.result.Result.the-variants.{Ok, Err}
 use Rattle.refusal.specs.declared.Refusal.the-variants.{NoSection}
@@ -62,3 +63,11 @@ section-in x s r e = by-test (ltb s (x .sections)) refl e
     by-test : (b : Bool) → ltb s (x .sections) ≡ b → Ok r ≡ cond b (Ok s) (Err (NoSection s)) → r < x .sections
     by-test true t e = let l = ltb-true s (x .sections) t in let same : r ≡ s = cc in omega arith
     by-test false t e = let z : _≡_ {A = ℕ} 0 1 = cc in omega arith
+
+-- a demand without its sign is a part of the figure
+pub held-part : (x : Siding) (s : ℕ) → 0 < s → s < x .sections → natAbs (getD (x .demand) s (pos 0)) ≤ x .figure
+held-part x s p l = let part = sizes-part (x .sections) (x .demand) s p l in omega (arith, held-sizes x)
+
+-- the away moves are few
+pub held-away : (x : Siding) → x .away ≤ 400000
+held-away x = let f = held-figure x in omega (arith, x .few, x .page)

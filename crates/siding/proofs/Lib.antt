@@ -12,3 +12,5 @@ pub mod WrittenOut
 pub mod Way
 pub mod Held
 pub mod Stocked
+pub mod Handed
+pub mod Outcomes

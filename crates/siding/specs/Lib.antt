@@ -3,3 +3,4 @@ pub mod Sheet
 pub mod Stands
 pub mod Outcome
 pub mod Restock
+pub mod Hand

@@ -50,6 +50,8 @@ pub struct Siding {
 
 mod changes;
 mod drawing;
+mod hand;
+mod make;
 mod page;
 mod readings;
 mod writing;
