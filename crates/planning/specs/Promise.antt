@@ -4,7 +4,8 @@ use mathlib.Core.List.{List}
 use Rattle.std.specs.declared.result.Result.{Result}
 use Rattle.std.specs.declared.result.Result.the-variants.{Ok, Err}
 use Rattle.refusal.specs.declared.Refusal.{Refusal}
-use Rattle.motion.specs.State.{State, figure, Balances}
+use Rattle.motion.specs.State.{State, figure, Balances, Equal-numbers}
+use Rattle.motion.specs.Floor.{No-filling-list-is-shorter}
 use Rattle.motion.specs.Calls.{After}
 use Rattle.motion.specs.declared.calls.Call.{Call}
 use Rattle.siding.specs.declared.siding.Siding.{Siding}
@@ -15,8 +16,10 @@ use Rattle.planning.specs.declared.account.Account.{Account}
 pub record Promise (calls : List Call) (start end : State) : Type 0 where
   -- the siding stands where the calls put it
   pub stands : After calls start end
-  -- moves + figure = head + 2 × away
+  -- moves + figure = head + 2 × away, whether wagons and berths are equal in number or not
   pub page-balances : Balances end
+  -- and where they are, no filling list from there has fewer moves than the figure says
+  pub figure-is-a-floor : Equal-numbers end → No-filling-list-is-shorter (end .sections) (end .inner) (end .wagons) (end .berths)
 
 -- what drawing up made of the sheet decides: the promise holds, or nothing has changed
 abbrev pub Run : Result State Refusal → List Call → Siding → Siding → Type 0

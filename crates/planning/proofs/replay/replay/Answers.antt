@@ -4,7 +4,7 @@ use Rattle.motion.specs.State.{State, figure}
 use Rattle.siding.specs.Stands.{stateOf}
 use Rattle.siding.specs.Sheet.{drawn}
 use Rattle.planning.specs.Promise.{Promise, Run, accounted}
-use Rattle.planning.proofs.Kept.{balances}
+use Rattle.planning.proofs.Kept.{balances, floor}
 use Rattle.planning.proofs.replay.replay.Needs as need
 
 pub returns : need.returns
@@ -15,7 +15,7 @@ returns c =
     let h = c .head .ensures in
     let m = c .moves .ensures in
     let a = c .away .ensures in
-    let promise : Promise (c .args .calls .now) _ (stateOf end) = record { stands = c .make-all .ensures; page-balances = balances end } in
+    let promise : Promise (c .args .calls .now) _ (stateOf end) = record { stands = c .make-all .ensures; page-balances = balances end; figure-is-a-floor = floor end } in
     record {
       run = rw accepted promise;
       answer = rw accepted (cc);
