@@ -1,5 +1,6 @@
 // Sidings, read and written.
 use motion::calls::Call;
+use motion::moves::Move;
 use planning::account::Account;
 use planning::account::AccountDebug;
 use planning::account::AccountPartialEq;
@@ -83,4 +84,96 @@ fn page_is_turned() -> Result<(), Fail> {
         replay(&mut siding, b"", &[Call::Turn]),
         Err(Refusal::SheetLength),
     )
+}
+
+fn fork() -> Result<Siding, Refusal> {
+    let mut siding = Siding::bare();
+    siding.draw_up(FORK)?;
+    Ok(siding)
+}
+
+// A wagon goes inward and back: the second move goes away from the berth.
+#[test]
+fn there_and_back() -> Result<(), Fail> {
+    let mut siding = fork()?;
+    siding.hand_move(3, 1)?;
+    check_eq(siding.figure(), 2)?;
+    check_eq(siding.demand_of(3), Ok(0))?;
+    siding.hand_move(1, 3)?;
+    check_eq(siding.figure(), 3)?;
+    check_eq(siding.head(), 3)?;
+    check_eq(siding.moves(), 2)?;
+    check_eq(siding.away(), 1)
+}
+
+// What a hand move refuses, in the order of the tests.
+#[test]
+fn hand_moves_refused() -> Result<(), Fail> {
+    let mut siding = fork()?;
+    siding.put(1)?;
+    check_eq(siding.hand_move(65_535, 4), Err(Refusal::NoSection(65_535)))?;
+    check_eq(siding.hand_move(0, 4), Err(Refusal::NoSection(4)))?;
+    check_eq(siding.hand_move(0, 3), Err(Refusal::NotNeighbours(0)))?;
+    check_eq(siding.hand_move(0, 0), Err(Refusal::NotNeighbours(0)))?;
+    check_eq(siding.hand_move(3, 3), Err(Refusal::NotNeighbours(0)))?;
+    check_eq(siding.hand_move(0, 1), Err(Refusal::NotThere(0)))?;
+    check_eq(siding.hand_move(3, 1), Err(Refusal::AlreadyThere(0)))?;
+    check_eq(siding.moves(), 0)
+}
+
+// Wagons and berths come and go, and each begins a page.
+#[test]
+fn wagons_and_berths() -> Result<(), Fail> {
+    let mut siding = fork()?;
+    siding.hand_move(3, 1)?;
+    siding.put(3)?;
+    check_eq(siding.wagon_count(), 2)?;
+    check_eq(siding.figure(), 4)?;
+    check_eq(siding.head(), 4)?;
+    check_eq(siding.moves(), 0)?;
+    check_eq(siding.put(3), Err(Refusal::AlreadyThere(0)))?;
+    check_eq(siding.put(4), Err(Refusal::NoSection(4)))?;
+    siding.mark(3)?;
+    check_eq(siding.berth_count(), 2)?;
+    check_eq(siding.figure(), 2)?;
+    check_eq(siding.mark(3), Err(Refusal::AlreadyThere(0)))?;
+    check_eq(siding.mark(9), Err(Refusal::NoSection(9)))?;
+    siding.take(1)?;
+    check_eq(siding.figure(), 1)?;
+    check_eq(siding.take(1), Err(Refusal::NotThere(0)))?;
+    siding.unmark(2)?;
+    check_eq(siding.figure(), 0)?;
+    check_eq(siding.unmark(2), Err(Refusal::NotThere(0)))?;
+    check_eq(siding.take(65_535), Err(Refusal::NoSection(65_535)))?;
+    check_eq(siding.unmark(4), Err(Refusal::NoSection(4)))
+}
+
+// The page takes half a million moves and no more.
+#[test]
+fn page_fills() -> Result<(), Fail> {
+    let mut siding = fork()?;
+    for _ in 0..250_000u32 {
+        siding.hand_move(3, 1)?;
+        siding.hand_move(1, 3)?;
+    }
+    check_eq(siding.hand_move(3, 1), Err(Refusal::PageFull))?;
+    check_eq(siding.moves(), 500_000)?;
+    check_eq(siding.away(), 250_000)?;
+    siding.turn_page();
+    siding.hand_move(3, 1)?;
+    check_eq(siding.moves(), 1)
+}
+
+// Calls, some of them refused, in one run.
+#[test]
+fn calls_are_made() -> Result<(), Fail> {
+    let mut siding = Siding::bare();
+    let calls = [
+        Call::Hand(Move { from: 3, to: 1 }),
+        Call::Hand(Move { from: 0, to: 3 }),
+        Call::Hand(Move { from: 1, to: 3 }),
+        Call::Take(2),
+    ];
+    let account = replay(&mut siding, FORK, &calls)?;
+    check_eq(account, Account { figure: 3, head: 3, moves: 2, away: 1 })
 }
