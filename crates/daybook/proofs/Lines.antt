@@ -6,9 +6,11 @@ use Prim.Native.Nat.{ℕ, suc, _+_, _<_, _≤_}
 use native.Mathlib.Omega.{arith}
 use lib.Dec.{eqb}
 use lib.ListN.{length, take, drop, getD}
-use Rattle.std.specs.Joined.{joined}
 use Rattle.std.proofs.shelf.Lists.{append-nil, at-drop-more, at-drop-all}
 use Rattle.std.proofs.shelf.Tests.{eq-eqb, ne-eqb}
+use Rattle.motion.specs.State.{State}
+use Rattle.daybook.specs.Answer.{after}
+use Rattle.daybook.specs.Day.{answered, answers}
 use Rattle.daybook.specs.Input.{line-end, before-lines, cut, one-or-more, first-length}
 
 -- its length, byte by byte
@@ -51,16 +53,18 @@ unfolding cut first-length
 cut-first [] some = absurd (omega arith)
 cut-first (b ∷ bs) some = first-before (eqb b line-end) b bs (cut-first bs)
 
--- a text, and then what each line gives: the first line's goes to the text
-pub joined-first :
-    (gives : List ℕ → List ℕ) (text s : List ℕ)
+-- a text, and then the answers of lines: the first line's goes to the text
+pub answers-first :
+    (text : List ℕ) (x : State) (s : List ℕ)
     → 0 < length s
-    → (text ++ gives (take (first-length s) s)) ++ joined gives (cut (drop (first-length s) s)) ≡ text ++ joined gives (cut s)
-joined-first gives text s some =
-    append-assoc text (gives (take (first-length s) s)) (joined gives (cut (drop (first-length s) s)))
-    ∙ ap (λ lines. text ++ joined gives lines) (sym (cut-first s some))
+    → (text ++ answered (take (first-length s) s) x) ++ answers (after (take (first-length s) s) x) (cut (drop (first-length s) s))
+    ≡ text ++ answers x (cut s)
+unfolding answers
+answers-first text x s some =
+    append-assoc text (answered (take (first-length s) s) x) (answers (after (take (first-length s) s) x) (cut (drop (first-length s) s)))
+    ∙ ap (λ lines. text ++ answers x lines) (sym (cut-first s some))
 
-pub joined-none : (gives : List ℕ → List ℕ) (text s : List ℕ) → length s ≡ 0 → text ++ joined gives (cut s) ≡ text
-unfolding cut
-joined-none gives text [] none = append-nil text
-joined-none gives text (b ∷ bs) none = absurd (omega arith)
+pub answers-none : (text : List ℕ) (x : State) (s : List ℕ) → length s ≡ 0 → text ++ answers x (cut s) ≡ text
+unfolding cut answers
+answers-none text x [] none = append-nil text
+answers-none text x (b ∷ bs) none = absurd (omega arith)

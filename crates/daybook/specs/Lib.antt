@@ -1,4 +1,5 @@
 pub mod Input
+pub mod Line
 pub mod Opening
 pub mod Answer
 pub mod Day

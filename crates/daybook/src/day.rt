@@ -4,6 +4,8 @@ ghost use mathlib.Core.List.{_++_};
 ghost use Rattle.std.specs.Of.String.{string-bytes};
 ghost use Rattle.std.specs.Vec.{made};
 ghost use Rattle.daybook.specs.Input.{cut};
+ghost use Rattle.siding.specs.Stands.{stateOf};
+ghost use Rattle.daybook.specs.Answer.{after};
 ghost use Rattle.daybook.specs.Day.{answered, answers, dayOf};
 use crate::answer::AnswerDisplay;
 use crate::answer::answer_to;
@@ -25,28 +27,29 @@ pub fn day(heap: Global, input: &[u8]) -> Result<String, AllocError>
     let mut text = format!(heap, "{opening}\n")?;
     if let Opening::Drawn { .. } = opening {
         let (_, lines) = parted(input);
-        answer_lines(&mut text, lines)?;
+        answer_lines(&mut text, &mut siding, lines)?;
     }
     Ok(text)
 }
 
 // Appends the answer of each line.
-fn answer_lines(text: &mut String, lines: &[u8]) -> Result<(), AllocError>
-    ensures { λ r. ⌜ made r (λ _. string-bytes (now (text .exit)) ≡ string-bytes (now (text .entry)) ++ answers (cut (now (lines .entry)))) ⌝ }
+fn answer_lines(text: &mut String, siding: &mut Siding, lines: &[u8]) -> Result<(), AllocError>
+    ensures { λ r. ⌜ made r (λ _. string-bytes (now (text .exit)) ≡ string-bytes (now (text .entry)) ++ answers (stateOf (now (siding .entry))) (cut (now (lines .entry)))) ⌝ }
 {
     let mut rest = lines;
     while !rest.is_empty() {
         let (line, after) = rest.split_at(first_length(rest));
-        answer_line(text, line)?;
+        answer_line(text, siding, line)?;
         rest = after;
     }
     Ok(())
 }
 
-fn answer_line(text: &mut String, line: &[u8]) -> Result<(), AllocError>
-    ensures { λ r. ⌜ made r (λ _. string-bytes (now (text .exit)) ≡ string-bytes (now (text .entry)) ++ answered (now (line .entry))) ⌝ }
+fn answer_line(text: &mut String, siding: &mut Siding, line: &[u8]) -> Result<(), AllocError>
+    ensures text { λ r. ⌜ made r (λ _. string-bytes (now (text .exit)) ≡ string-bytes (now (text .entry)) ++ answered (now (line .entry)) (stateOf (now (siding .entry)))) ⌝ }
+    ensures stands { λ _. ⌜ stateOf (now (siding .exit)) ≡ after (now (line .entry)) (stateOf (now (siding .entry))) ⌝ }
 {
-    let answer = answer_to(line);
+    let answer = answer_to(siding, line);
     match writeln!(text, "{answer}") {
         Ok(()) => Ok(()),
         Err(_) => Err(AllocError),

@@ -8,7 +8,7 @@ ghost use Rattle.daybook.specs.Input.{sheet-bytes, after-sheet, first-length};
 pub(crate) const MOST_BYTES: usize = 65_536;
 
 // The byte that ends a line.
-const LINE_END: u8 = b'\n';
+pub(crate) const LINE_END: u8 = b'\n';
 
 // The sheet, and what follows it.
 pub(crate) fn parted(input: &[u8]) -> (&[u8], &[u8])

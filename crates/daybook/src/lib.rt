@@ -2,4 +2,5 @@
 pub mod answer;
 pub mod day;
 mod input;
+pub mod line;
 pub mod opening;

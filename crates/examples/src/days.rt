@@ -10,7 +10,7 @@ struct Row {
     answer: &'static str,
 }
 
-const ROWS: [Row; 20] = [
+const ROWS: [Row; 25] = [
     // the fork
     Row {
         input: b"\x00\x04\x00\x01\x00\x00\x00\x00\x00\x00\x00\x01\x00\x00\x02\x01",
@@ -104,6 +104,31 @@ const ROWS: [Row; 20] = [
     Row {
         input: b"\x00\x01\x00\x00\x00\x00\x00\n",
         answer: "1 0 0\nno 15\n",
+    },
+    // a wagon goes inward and back, and two sections that are not neighbours
+    Row {
+        input: b"\x00\x04\x00\x01\x00\x00\x00\x00\x00\x00\x00\x01\x00\x00\x02\x01m 3 1\nm 1 3\nm 0 3\n",
+        answer: "4 1 3\nok 2\nok 3\nno 9\n",
+    },
+    // into a filled section, out of an empty one, and no such section
+    Row {
+        input: b"\x00\x04\x00\x01\x00\x00\x00\x00\x00\x00\x00\x01\x00\x00\x02\x01p 1\nm 3 1\nm 0 1\nm 65535 0\nt 65535\n",
+        answer: "4 1 3\nok 4\nno 7\nno 8\nno 6\nno 6\n",
+    },
+    // wagons and berths come and go, and a new page
+    Row {
+        input: b"\x00\x04\x00\x01\x00\x00\x00\x00\x00\x00\x00\x01\x00\x00\x02\x01b 3\nu 2\nt 3\np 0\nn\nt 3\nu 2\np 0\nb 3\n",
+        answer: "4 1 3\nok 1\nok 0\nok 2\nok 2\nok 2\nno 8\nno 8\nno 7\nno 7\n",
+    },
+    // lines out of form: a step, leading zeros, blanks, a carriage return, numbers too large, parts too few and too many
+    Row {
+        input: b"\x00\x01\x00\x00\x00\x00\x00s\np 00\np 01\np  0\np 0 \np 0\r\np\np \np 65536\np 99999999999999999999\nn \nn 0\nm 0\nm 0 0 0\nP 0\n0\n",
+        answer: "1 0 0\nno 15\nno 15\nno 15\nno 15\nno 15\nno 15\nno 15\nno 15\nno 15\nno 15\nno 15\nno 15\nno 15\nno 15\nno 15\nno 15\n",
+    },
+    // a line without its end is not done
+    Row {
+        input: b"\x00\x01\x00\x00\x00\x00\x00p 0\nt 0",
+        answer: "1 0 0\nok 0\nno 15\n",
     },
 ];
 

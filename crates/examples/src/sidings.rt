@@ -175,5 +175,13 @@ fn calls_are_made() -> Result<(), Fail> {
         Call::Take(2),
     ];
     let account = replay(&mut siding, FORK, &calls)?;
-    check_eq(account, Account { figure: 3, head: 3, moves: 2, away: 1 })
+    check_eq(
+        account,
+        Account {
+            figure: 3,
+            head: 3,
+            moves: 2,
+            away: 1,
+        },
+    )
 }

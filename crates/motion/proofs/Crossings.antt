@@ -43,9 +43,9 @@ outward-other m s ne = ap one-if (and-left (eqb (m .to) s) _ (ne-eqb (m .to) s (
 pub crosses-other : (m : Move) (s : ℕ) → s ≢ max (m .from) (m .to) → (one-if (crosses-inward s m) ≡ 0) × (one-if (crosses-outward s m) ≡ 0)
 crosses-other m s ne =
     ⊎-elim
-      (λ (l : m .to < m .from). (inward-other m s (λ e. ne (omega arith)), outward-no m (omega arith) s))
-      (λ (g : m .from ≤ m .to). (inward-no m g s, outward-other m s (λ e. ne (omega arith))))
-      (cases-lt (m .to) (m .from))
+    (λ (l : m .to < m .from). (inward-other m s (λ e. ne (omega arith)), outward-no m (omega arith) s))
+    (λ (g : m .from ≤ m .to). (inward-no m g s, outward-other m s (λ e. ne (omega arith))))
+    (cases-lt (m .to) (m .from))
 
 pub one-demand-changes :
     (n : ℕ) (inner wagons berths : List ℕ) (m : Move) → Tree n inner → n ≤ length wagons → Legal n inner wagons m
@@ -98,12 +98,12 @@ figure-moved n inner wagons berths m tree long legal s is =
     let new : ℕ → ℤ = demandOf n inner (moved wagons m) berths in
     let changes = one-demand-changes n inner wagons berths m tree long legal in
     let some : 0 < h =
-          ⊎-elim (λ (b : Branch n inner (m .from) (m .to)). omega (arith, b .outer)) (λ (b : Branch n inner (m .to) (m .from)). omega (arith, b .outer)) (legal .neighbours) in
+    ⊎-elim (λ (b : Branch n inner (m .from) (m .to)). omega (arith, b .outer)) (λ (b : Branch n inner (m .to) (m .from)). omega (arith, b .outer)) (legal .neighbours) in
     let within : h - 1 < n - 1 = omega (arith, legal .from-in, legal .to-in) in
     let back : h - 1 + 1 ≡ h = omega arith in
     let one : sumTo (λ k. natAbs (new (k + 1))) (n - 1) + natAbs (old (h - 1 + 1)) ≡ sumTo (λ k. natAbs (old (k + 1))) (n - 1) + natAbs (new (h - 1 + 1)) =
-          sum-one (λ k. natAbs (old (k + 1))) (λ k. natAbs (new (k + 1))) (n - 1) (h - 1) within
-            (λ k l ne. sym (ap natAbs (changes .others (k + 1) (λ e. ne (omega arith))))) in
+    sum-one (λ k. natAbs (old (k + 1))) (λ k. natAbs (new (k + 1))) (n - 1) (h - 1) within
+    (λ k l ne. sym (ap natAbs (changes .others (k + 1) (λ e. ne (omega arith))))) in
     ap (λ v. sumTo (λ k. natAbs (new (k + 1))) (n - 1) + natAbs (old v)) (sym back)
     ∙ one
     ∙ ap (λ v. sumTo (λ k. natAbs (old (k + 1))) (n - 1) + natAbs (new v)) back

@@ -76,20 +76,20 @@ below-or-not a b = ⊎-elim (λ (l : a < b). inl l) (λ (g : b ≤ a). inr (λ l
 branch-or-not : (n : ℕ) (inner : List ℕ) (s c : ℕ) → Branch n inner s c ⊎ (Branch n inner s c → ⊥)
 branch-or-not n inner s c =
     ⊎-elim
-      (λ (h : ((0 < c) × (c < n)) × (getD inner c 0 ≡ s)). inl (record { outer = h .0 .0; within = h .0 .1; hangs = h .1 }))
-      (λ (h : ((0 < c) × (c < n)) × (getD inner c 0 ≡ s) → ⊥). inr (λ b. h ((b .outer, b .within), b .hangs)))
-      (both (both (below-or-not 0 c) (below-or-not c n)) (cases-eq (getD inner c 0) s))
+    (λ (h : ((0 < c) × (c < n)) × (getD inner c 0 ≡ s)). inl (record { outer = h .0 .0; within = h .0 .1; hangs = h .1 }))
+    (λ (h : ((0 < c) × (c < n)) × (getD inner c 0 ≡ s) → ⊥). inr (λ b. h ((b .outer, b .within), b .hangs)))
+    (both (both (below-or-not 0 c) (below-or-not c n)) (cases-eq (getD inner c 0) s))
 
 neighbours-or-not : (n : ℕ) (inner : List ℕ) (a b : ℕ) → Neighbours n inner a b ⊎ (Neighbours n inner a b → ⊥)
 neighbours-or-not n inner a b =
     ⊎-elim
-      (λ (h : Branch n inner a b). inl (inl h))
-      (λ (h : Branch n inner a b → ⊥).
-        ⊎-elim
-          (λ (k : Branch n inner b a). inl (inr k))
-          (λ (k : Branch n inner b a → ⊥). inr (⊎-elim h k))
-          (branch-or-not n inner b a))
-      (branch-or-not n inner a b)
+    (λ (h : Branch n inner a b). inl (inl h))
+    (λ (h : Branch n inner a b → ⊥).
+    ⊎-elim
+    (λ (k : Branch n inner b a). inl (inr k))
+    (λ (k : Branch n inner b a → ⊥). inr (⊎-elim h k))
+    (branch-or-not n inner b a))
+    (branch-or-not n inner a b)
 
 abbrev Could-move : ℕ → List ℕ → List ℕ → Move → Type 0
 Could-move n inner wagons m = ((m .from < n) × (m .to < n)) × (Neighbours n inner (m .from) (m .to) × ((0 < getD wagons (m .from) 0) × (getD wagons (m .to) 0 ≡ 0)))
@@ -97,38 +97,38 @@ Could-move n inner wagons m = ((m .from < n) × (m .to < n)) × (Neighbours n in
 pub legal-or-not : (n : ℕ) (inner wagons : List ℕ) (m : Move) → Legal n inner wagons m ⊎ (Legal n inner wagons m → ⊥)
 legal-or-not n inner wagons m =
     ⊎-elim
-      (λ (h : Could-move n inner wagons m).
-        inl (record { from-in = h .0 .0; to-in = h .0 .1; neighbours = h .1 .0; there = h .1 .1 .0; free = h .1 .1 .1 }))
-      (λ (h : Could-move n inner wagons m → ⊥).
-        inr (λ l. h ((l .from-in, l .to-in), (l .neighbours, (l .there, l .free)))))
-      (both
-        (both (below-or-not (m .from) n) (below-or-not (m .to) n))
-        (both (neighbours-or-not n inner (m .from) (m .to)) (both (below-or-not 0 (getD wagons (m .from) 0)) (cases-eq (getD wagons (m .to) 0) 0))))
+    (λ (h : Could-move n inner wagons m).
+    inl (record { from-in = h .0 .0; to-in = h .0 .1; neighbours = h .1 .0; there = h .1 .1 .0; free = h .1 .1 .1 }))
+    (λ (h : Could-move n inner wagons m → ⊥).
+    inr (λ l. h ((l .from-in, l .to-in), (l .neighbours, (l .there, l .free)))))
+    (both
+    (both (below-or-not (m .from) n) (below-or-not (m .to) n))
+    (both (neighbours-or-not n inner (m .from) (m .to)) (both (below-or-not 0 (getD wagons (m .from) 0)) (cases-eq (getD wagons (m .to) 0) 0))))
 
 -- a call that is done to y if two things hold
 made-if : (c : Call) (x y : State) {P Q : Type 0} → P ⊎ (P → ⊥) → Q ⊎ (Q → ⊥) → (P → Q → Does c x y) → ((z : State) → Does c x z → P × Q) → (z : State) × Makes c x z
 made-if c x y p q does only =
     ⊎-elim
-      (λ h. (y, Makes.done (does (h .0) (h .1))))
-      (λ h. (x, Makes.refused (λ z d. h (only z d)) refl))
-      (both p q)
+    (λ h. (y, Makes.done (does (h .0) (h .1))))
+    (λ h. (x, Makes.refused (λ z d. h (only z d)) refl))
+    (both p q)
 
 makes-some : (c : Call) (x : State) → (y : State) × Makes c x y
 makes-some (Put s) x =
     made-if (Put s) x (page-begun (with-wagons x (one-more (x .wagons) s))) (below-or-not s (x .sections)) (cases-eq (getD (x .wagons) s 0) 0)
-      (λ p q. (p, q, refl)) (λ z d. (d .0, d .1))
+    (λ p q. (p, q, refl)) (λ z d. (d .0, d .1))
 makes-some (Take s) x =
     made-if (Take s) x (page-begun (with-wagons x (one-less (x .wagons) s))) (below-or-not s (x .sections)) (below-or-not 0 (getD (x .wagons) s 0))
-      (λ p q. (p, q, refl)) (λ z d. (d .0, d .1))
+    (λ p q. (p, q, refl)) (λ z d. (d .0, d .1))
 makes-some (Mark s) x =
     made-if (Mark s) x (page-begun (with-berths x (one-more (x .berths) s))) (below-or-not s (x .sections)) (cases-eq (getD (x .berths) s 0) 0)
-      (λ p q. (p, q, refl)) (λ z d. (d .0, d .1))
+    (λ p q. (p, q, refl)) (λ z d. (d .0, d .1))
 makes-some (Unmark s) x =
     made-if (Unmark s) x (page-begun (with-berths x (one-less (x .berths) s))) (below-or-not s (x .sections)) (below-or-not 0 (getD (x .berths) s 0))
-      (λ p q. (p, q, refl)) (λ z d. (d .0, d .1))
+    (λ p q. (p, q, refl)) (λ z d. (d .0, d .1))
 makes-some (Hand m) x =
     made-if (Hand m) x (hand-moved x m) (legal-or-not (x .sections) (x .inner) (x .wagons) m) (below-or-not (x .moves) most-moves)
-      (λ p q. (p, q, refl)) (λ z d. (d .0, d .1))
+    (λ p q. (p, q, refl)) (λ z d. (d .0, d .1))
 makes-some Turn x = (page-begun x, Makes.done refl)
 
 pub some-end : (calls : List Call) (x : State) → (y : State) × After calls x y

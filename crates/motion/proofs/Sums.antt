@@ -100,6 +100,6 @@ unfolding sumTo
 sum-part f zero i l = let z : ⊥ = omega arith in absurd z
 sum-part f (suc n) i l =
     ⊎-elim
-      (λ (e : i ≡ n). let a = ap f e in omega arith)
-      (λ (ne : i ≡ n → ⊥). let ih = sum-part f n i (omega arith) in omega arith)
-      (cases-eq i n)
+    (λ (e : i ≡ n). let a = ap f e in omega arith)
+    (λ (ne : i ≡ n → ⊥). let ih = sum-part f n i (omega arith) in omega arith)
+    (cases-eq i n)

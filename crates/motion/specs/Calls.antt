@@ -61,4 +61,4 @@ Some-end = (calls : List Call) (x : State) → (y : State) × After calls x y
 abbrev pub Every-split : Type 0
 Every-split =
     (before : List Call) (c : Call) (after : List Call) (entry exit : State) → After (before ++ (c ∷ after)) entry exit
-  → (x : State) × (y : State) × Passing before c after entry x y exit
+    → (x : State) × (y : State) × Passing before c after entry x y exit

@@ -39,14 +39,14 @@ module _ (x : Siding) (m : Move) (legal : Legal (x .sections) (x .inner) (x .wag
   pub crossed-within : (s : ℕ) → s ≡ max (m .from) (m .to) → (0 < s) × (s < x .sections)
   crossed-within s e =
       ⊎-elim
-        (λ (l : m .to < m .from). (omega arith, omega (arith, legal .from-in)))
-        (λ (l : m .from < m .to). (omega arith, omega (arith, legal .to-in)))
-        (legal-apart (x .sections) (x .inner) (x .wagons) m (held-tree x) legal)
+      (λ (l : m .to < m .from). (omega arith, omega (arith, legal .from-in)))
+      (λ (l : m .from < m .to). (omega arith, omega (arith, legal .to-in)))
+      (legal-apart (x .sections) (x .inner) (x .wagons) m (held-tree x) legal)
 
   -- the demand of the higher section, one up or one down, and the figure with it
   crosses-by : (c : Crossing) (s : ℕ) → s ≡ max (m .from) (m .to) → c .section ≡ s
-    → c .demand ≡ demandOf (x .sections) (x .inner) (moved (x .wagons) m) (x .berths) s
-    → c .figure + natAbs (getD (x .demand) s (pos 0)) ≡ x .figure + natAbs (c .demand) → Crosses x m c
+      → c .demand ≡ demandOf (x .sections) (x .inner) (moved (x .wagons) m) (x .berths) s
+      → c .figure + natAbs (getD (x .demand) s (pos 0)) ≡ x .figure + natAbs (c .demand) → Crosses x m c
   crosses-by c s e at is adds =
       let all = figure-moved (x .sections) (x .inner) (x .wagons) (x .berths) m (held-tree x) long legal s e in
       let old = ap natAbs (x .demands s (crossed-within s e .1)) in
@@ -58,14 +58,14 @@ module _ (x : Siding) (m : Move) (legal : Legal (x .sections) (x .inner) (x .wag
       }
 
   pub crosses-inward : (c : Crossing) → m .to < m .from → c .section ≡ m .from → c .demand ≡ getD (x .demand) (m .from) (pos 0) +ℤ pos 1
-    → c .figure + natAbs (getD (x .demand) (m .from) (pos 0)) ≡ x .figure + natAbs (c .demand) → Crosses x m c
+      → c .figure + natAbs (getD (x .demand) (m .from) (pos 0)) ≡ x .figure + natAbs (c .demand) → Crosses x m c
   crosses-inward c l at is adds =
       let up = one-demand-changes (x .sections) (x .inner) (x .wagons) (x .berths) m (held-tree x) long legal .inward l in
       let old = x .demands (m .from) (legal .from-in) in
       crosses-by c (m .from) (omega arith) at (is ∙ ap (λ d. d +ℤ pos 1) old ∙ sym up) adds
 
   pub crosses-outward : (c : Crossing) → m .from ≤ m .to → c .section ≡ m .to → c .demand ≡ getD (x .demand) (m .to) (pos 0) +ℤ negsuc 0
-    → c .figure + natAbs (getD (x .demand) (m .to) (pos 0)) ≡ x .figure + natAbs (c .demand) → Crosses x m c
+      → c .figure + natAbs (getD (x .demand) (m .to) (pos 0)) ≡ x .figure + natAbs (c .demand) → Crosses x m c
   crosses-outward c g at is adds =
       let l : m .from < m .to = ⊎-elim (λ (h : m .to < m .from). omega arith) (λ (h : m .from < m .to). h) (legal-apart (x .sections) (x .inner) (x .wagons) m (held-tree x) legal) in
       let down = one-demand-changes (x .sections) (x .inner) (x .wagons) (x .berths) m (held-tree x) long legal .outward l in
@@ -94,7 +94,7 @@ module _ (x : Siding) (m : Move) (legal : Legal (x .sections) (x .inner) (x .wag
   unfolding left
   moved-single =
       single-more (x .sections) left (m .to) (legal .to-in) left-long still-free
-        (single-less (x .sections) (x .wagons) (m .from) (legal .from-in) long (x .«one_wagon»))
+      (single-less (x .sections) (x .wagons) (m .from) (legal .from-in) long (x .«one_wagon»))
 
   pub moved-clear : Clear (x .sections) (moved (x .wagons) m)
   unfolding left
@@ -107,16 +107,16 @@ module _ (x : Siding) (m : Move) (legal : Legal (x .sections) (x .inner) (x .wag
     pub moved-demands : True-demands (x .sections) (x .inner) (moved (x .wagons) m) (x .berths) (set (x .demand) (c .section) stored)
     moved-demands s l =
         ⊎-elim
-          (λ (e : s ≡ c .section).
-            ap (λ k. getD (set (x .demand) (c .section) stored) k (pos 0)) e
-            ∙ getD-set-same (x .demand) (c .section) stored (pos 0) (let w = crossed-within (c .section) (crosses .section) in omega (arith, x .most, x .«long_too» .2))
-            ∙ same ∙ crosses .demand
-            ∙ ap (demandOf (x .sections) (x .inner) (moved (x .wagons) m) (x .berths)) (sym e))
-          (λ (ne : s ≡ c .section → ⊥).
-            getD-set-other (x .demand) (c .section) s stored (pos 0) ne
-            ∙ x .demands s l
-            ∙ sym (one-demand-changes (x .sections) (x .inner) (x .wagons) (x .berths) m (held-tree x) long legal .others s (λ e. ne (e ∙ sym (crosses .section)))))
-          (cases-eq s (c .section))
+        (λ (e : s ≡ c .section).
+        ap (λ k. getD (set (x .demand) (c .section) stored) k (pos 0)) e
+        ∙ getD-set-same (x .demand) (c .section) stored (pos 0) (let w = crossed-within (c .section) (crosses .section) in omega (arith, x .most, x .«long_too» .2))
+        ∙ same ∙ crosses .demand
+        ∙ ap (demandOf (x .sections) (x .inner) (moved (x .wagons) m) (x .berths)) (sym e))
+        (λ (ne : s ≡ c .section → ⊥).
+        getD-set-other (x .demand) (c .section) s stored (pos 0) ne
+        ∙ x .demands s l
+        ∙ sym (one-demand-changes (x .sections) (x .inner) (x .wagons) (x .berths) m (held-tree x) long legal .others s (λ e. ne (e ∙ sym (crosses .section)))))
+        (cases-eq s (c .section))
 
     pub moved-clear-demands : Clear-demands (x .sections) (set (x .demand) (c .section) stored)
     moved-clear-demands s l =
@@ -160,8 +160,8 @@ away-counted x wagons away = record {
 module _ (x : Siding) (m : Move) (may : May-move x m) where
   -- only the count of away moves wants a word
   pub hand-done : (c : Crossing) (more : ℕ) → Crosses x m c → more ≡ one-if (ltb (x .figure) (c .figure))
-    → (y : State) → y ≡ away-counted (stateOf x) (moved (x .wagons) m) (x .away + more) → outcome (Hand m) (stateOf x) ≡ Ok y
+      → (y : State) → y ≡ away-counted (stateOf x) (moved (x .wagons) m) (x .away + more) → outcome (Hand m) (stateOf x) ≡ Ok y
   hand-done c more crosses is y e =
       let counted : more ≡ one-if (ltb (figureOf (x .sections) (x .inner) (x .wagons) (x .berths)) (figureOf (x .sections) (x .inner) (moved (x .wagons) m) (x .berths))) =
-            is ∙ ap (λ f. one-if (ltb f (c .figure))) (x .sums) ∙ ap (λ g. one-if (ltb (figureOf (x .sections) (x .inner) (x .wagons) (x .berths)) g)) (crosses .figure) in
+      is ∙ ap (λ f. one-if (ltb f (c .figure))) (x .sums) ∙ ap (λ g. one-if (ltb (figureOf (x .sections) (x .inner) (x .wagons) (x .berths)) g)) (crosses .figure) in
       legal-outcome (stateOf x) m (may .legal) (may .room) ∙ ap (λ k. Ok (away-counted (stateOf x) (moved (x .wagons) m) (x .away + k))) (sym counted) ∙ ap Ok (sym e)

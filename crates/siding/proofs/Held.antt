@@ -36,7 +36,7 @@ pub sizes-figure : (n : ℕ) (inner wagons berths : List ℕ) (demand : List ℤ
 unfolding sizes figureOf
 sizes-figure n inner wagons berths demand are =
     sum-same (λ k. natAbs (getD demand (k + 1) (pos 0))) (λ k. natAbs (demandOf n inner wagons berths (k + 1))) (n - 1)
-      (λ k l. ap natAbs (are (k + 1) (omega arith)))
+    (λ k l. ap natAbs (are (k + 1) (omega arith)))
 
 pub held-sizes : (x : Siding) → x .figure ≡ sizes (x .sections) (x .demand)
 held-sizes x = x .sums ∙ sym (sizes-figure (x .sections) (x .inner) (x .wagons) (x .berths) (x .demand) (x .demands))

@@ -72,9 +72,9 @@ branch-tested n inner s c l h =
 neighbours-found : (n : ℕ) (inner : List ℕ) (a b : ℕ) → a < n → b < n → are-neighbours inner a b ≡ true → Neighbours n inner a b
 neighbours-found n inner a b la lb h =
     ⊎-elim
-      (λ (e : isBranch inner a b ≡ true). inl (branch-tested n inner a b lb e))
-      (λ (e : isBranch inner b a ≡ true). inr (branch-tested n inner b a la e))
-      (or-cases (isBranch inner a b) (isBranch inner b a) h)
+    (λ (e : isBranch inner a b ≡ true). inl (branch-tested n inner a b lb e))
+    (λ (e : isBranch inner b a ≡ true). inr (branch-tested n inner b a la e))
+    (or-cases (isBranch inner a b) (isBranch inner b a) h)
 
 -- a hand move: one test after another
 hand-passed : (x : State) (m : Move) (y : State) → outcome (Hand m) x ≡ Ok y → Does (Hand m) x y
@@ -86,16 +86,17 @@ hand-passed x m y h =
     let e = passed (eqb (getD (x .wagons) (m .to) 0) 0) _ (AlreadyThere 0) y (d .1) in
     let f = passed (ltb (x .moves) most-moves) _ PageFull y (e .1) in
     let from-in = ltb-true (m .from) (x .sections) (a .0) in
-    let to-in = ltb-true (m .to) (x .sections) (b .0) in
-    (record {
-       from-in = from-in;
-       to-in = to-in;
-       neighbours = neighbours-found (x .sections) (x .inner) (m .from) (m .to) from-in to-in (c .0);
-       there = positive (getD (x .wagons) (m .from) 0) (d .0);
-       free = eqb-true (getD (x .wagons) (m .to) 0) 0 (e .0);
-     },
-     ltb-true (x .moves) most-moves (f .0),
-     same-ok _ y (f .1))
+    let to-in = ltb-true (m .to) (x .sections) (b .0) in (
+      record {
+        from-in = from-in;
+        to-in = to-in;
+        neighbours = neighbours-found (x .sections) (x .inner) (m .from) (m .to) from-in to-in (c .0);
+        there = positive (getD (x .wagons) (m .from) 0) (d .0);
+        free = eqb-true (getD (x .wagons) (m .to) 0) 0 (e .0);
+      },
+      ltb-true (x .moves) most-moves (f .0),
+      same-ok _ y (f .1),
+    )
 
 -- the outcome of a call is what it does
 pub outcome-does : (c : Call) (x y : State) → outcome c x ≡ Ok y → Does c x y
@@ -120,5 +121,5 @@ pub carried-makes : (c : Call) (before after : Siding) (r : Result (Unit {0}) Re
 carried-makes c before after (Ok u) h = Makes.done (outcome-does c (stateOf before) (stateOf after) h)
 carried-makes c before after (Err e) h =
     Makes.refused
-      (λ z d. let same = does-outcome c (stateOf before) z d in let other = h .0 in let w : _≡_ {A = ℕ} 0 1 = cc in omega arith)
-      (ap stateOf (h .1))
+    (λ z d. let same = does-outcome c (stateOf before) z d in let other = h .0 in let w : _≡_ {A = ℕ} 0 1 = cc in omega arith)
+    (ap stateOf (h .1))

@@ -23,8 +23,8 @@ module _ (n : ℕ) (demand : List ℤ) where
   sizes-set s z p l m =
       let back : s - 1 + 1 ≡ s = omega arith in
       let one : sizes n (set demand s z) + natAbs (getD demand (s - 1 + 1) (pos 0)) ≡ sizes n demand + natAbs (getD (set demand s z) (s - 1 + 1) (pos 0)) =
-            sum-one (λ k. natAbs (getD demand (k + 1) (pos 0))) (λ k. natAbs (getD (set demand s z) (k + 1) (pos 0))) (n - 1) (s - 1) (omega arith)
-              (λ k h ne. sym (ap natAbs (getD-set-other demand s (k + 1) z (pos 0) (λ e. ne (omega arith))))) in
+      sum-one (λ k. natAbs (getD demand (k + 1) (pos 0))) (λ k. natAbs (getD (set demand s z) (k + 1) (pos 0))) (n - 1) (s - 1) (omega arith)
+      (λ k h ne. sym (ap natAbs (getD-set-other demand s (k + 1) z (pos 0) (λ e. ne (omega arith))))) in
       ap (λ v. sizes n (set demand s z) + natAbs (getD demand v (pos 0))) (sym back)
       ∙ one
       ∙ ap (λ v. sizes n demand + natAbs (getD (set demand s z) v (pos 0))) back
@@ -35,7 +35,7 @@ module _ (n : ℕ) (demand : List ℤ) where
   unfolding sizes
   sizes-neck z =
       sum-same (λ k. natAbs (getD (set demand 0 z) (k + 1) (pos 0))) (λ k. natAbs (getD demand (k + 1) (pos 0))) (n - 1)
-        (λ k l. ap natAbs (getD-set-other demand 0 (k + 1) z (pos 0) (λ e. omega arith)))
+      (λ k l. ap natAbs (getD-set-other demand 0 (k + 1) z (pos 0) (λ e. omega arith)))
 
   pub sizes-part : (s : ℕ) → 0 < s → s < n → natAbs (getD demand s (pos 0)) ≤ sizes n demand
   unfolding sizes
@@ -58,8 +58,7 @@ cond-small true by h = h
 cond-small false by h = omega (arith, ints)
 
 module _ (n : ℕ) (inner : List ℕ) (tree : Tree n inner) (at u : ℕ) (by : ℤ) (old new : List ℤ) (lu : u < n) (long : n ≤ length new)
-  (passed : (v : ℕ) → v < n → Passed inner at u by old new v) where
-
+    (passed : (v : ℕ) → v < n → Passed inner at u by old new v) where
   -- so far no demand has changed by more than two
   pub passed-small : natAbs by ≤ 1 → ((v : ℕ) → v < n → natAbs (getD old v (pos 0)) ≤ 512) → (v : ℕ) → v < n → natAbs (getD new v (pos 0)) ≤ 514
   passed-small one small v l =
@@ -81,32 +80,32 @@ module _ (n : ℕ) (inner : List ℕ) (tree : Tree n inner) (at u : ℕ) (by : �
       let low : getD inner u 0 < u = tree .lower u p lu in
       let was = passed v l in
       ⊎-elim
-        (λ (e : v ≡ u).
-          let a = at-itself z v e in
-          let o = ap (λ k. getD new k (pos 0)) e in
-          let b = under-itself v e in
-          let c : cond (isBelow inner v (getD inner u 0)) by (pos 0) ≡ pos 0 = ap (λ k. cond k by (pos 0)) (below-high n inner tree v (getD inner u 0) (omega arith) (omega arith)) in
-          omega (arith, ints))
-        (λ (ne : v ≡ u → ⊥).
-          let a : getD (set new u z) v (pos 0) ≡ getD new v (pos 0) = getD-set-other new u v z (pos 0) ne in
-          let b : cond (isBelow inner v u) by (pos 0) ≡ cond (isBelow inner v (getD inner u 0)) by (pos 0) = ap (λ k. cond k by (pos 0)) (below-other n inner tree v u p lu ne) in
-          omega (arith, ints))
-        (cases-eq v u)
+      (λ (e : v ≡ u).
+      let a = at-itself z v e in
+      let o = ap (λ k. getD new k (pos 0)) e in
+      let b = under-itself v e in
+      let c : cond (isBelow inner v (getD inner u 0)) by (pos 0) ≡ pos 0 = ap (λ k. cond k by (pos 0)) (below-high n inner tree v (getD inner u 0) (omega arith) (omega arith)) in
+      omega (arith, ints))
+      (λ (ne : v ≡ u → ⊥).
+      let a : getD (set new u z) v (pos 0) ≡ getD new v (pos 0) = getD-set-other new u v z (pos 0) ne in
+      let b : cond (isBelow inner v u) by (pos 0) ≡ cond (isBelow inner v (getD inner u 0)) by (pos 0) = ap (λ k. cond k by (pos 0)) (below-other n inner tree v u p lu ne) in
+      omega (arith, ints))
+      (cases-eq v u)
 
   -- and at the neck
   pub passed-all : u ≡ 0 → (z : ℤ) → z ≡ getD new 0 (pos 0) +ℤ by → (v : ℕ) → v < n → getD (set new 0 z) v (pos 0) ≡ getD old v (pos 0) +ℤ cond (isBelow inner v at) by (pos 0)
   passed-all neck z is v l =
       let was = passed v l in
       ⊎-elim
-        (λ (e : v ≡ u).
-          let a = at-itself z v e in
-          let n0 = ap (λ k. getD (set new k z) v (pos 0)) neck in
-          let o = ap (λ k. getD new k (pos 0)) (e ∙ neck) in
-          let b = under-itself v e in
-          omega (arith, ints))
-        (λ (ne : v ≡ u → ⊥).
-          let a : getD (set new 0 z) v (pos 0) ≡ getD new v (pos 0) = getD-set-other new 0 v z (pos 0) (λ e. ne (e ∙ sym neck)) in
-          let b : cond (isBelow inner v u) by (pos 0) ≡ pos 0 =
-                ap (λ k. cond (isBelow inner v k) by (pos 0)) neck ∙ ap (λ k. cond k by (pos 0)) (below-neck inner v ∙ ne-eqb v 0 (λ e. ne (e ∙ sym neck))) in
-          omega (arith, ints))
-        (cases-eq v u)
+      (λ (e : v ≡ u).
+      let a = at-itself z v e in
+      let n0 = ap (λ k. getD (set new k z) v (pos 0)) neck in
+      let o = ap (λ k. getD new k (pos 0)) (e ∙ neck) in
+      let b = under-itself v e in
+      omega (arith, ints))
+      (λ (ne : v ≡ u → ⊥).
+      let a : getD (set new 0 z) v (pos 0) ≡ getD new v (pos 0) = getD-set-other new 0 v z (pos 0) (λ e. ne (e ∙ sym neck)) in
+      let b : cond (isBelow inner v u) by (pos 0) ≡ pos 0 =
+      ap (λ k. cond (isBelow inner v k) by (pos 0)) neck ∙ ap (λ k. cond k by (pos 0)) (below-neck inner v ∙ ne-eqb v 0 (λ e. ne (e ∙ sym neck))) in
+      omega (arith, ints))
+      (cases-eq v u)

@@ -30,4 +30,4 @@ pub record May-stand (x : Siding) (stock : Stock) (at : ℕ) (by : ℤ) : Type 0
   pub demands :
       (s : ℕ) → s < x .sections
       → demandOf (x .sections) (x .inner) (stock .wagons) (stock .berths) s
-        ≡ demandOf (x .sections) (x .inner) (x .wagons) (x .berths) s +ℤ cond (isBelow (x .inner) s at) by (pos 0)
+      ≡ demandOf (x .sections) (x .inner) (x .wagons) (x .berths) s +ℤ cond (isBelow (x .inner) s at) by (pos 0)

@@ -114,7 +114,14 @@ pub(crate) fn resized(figure: u32, was: i16, is: i16) -> u32
 
 // Changes the demand by so much at each section on the way inward from `at`, which are those that it lies below,
 // and answers the figure after that.
-pub(crate) fn shift(n: usize, inner: &[u16; 512], demand: &mut [i16; 512], figure: u32, at: usize, by: i16) -> u32
+pub(crate) fn shift(
+    n: usize,
+    inner: &[u16; 512],
+    demand: &mut [i16; 512],
+    figure: u32,
+    at: usize,
+    by: i16,
+) -> u32
     requires most { ⌜ n ≤ 512 ⌝ }
     requires tree { ⌜ Tree n (now inner) ⌝ }
     requires within { ⌜ at < n ⌝ }

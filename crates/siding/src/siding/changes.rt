@@ -77,7 +77,12 @@ impl Siding {
     {
         let wagons = self.wagons;
         let berths = self.berths;
-        Stock { wagons, berths, wagon_count: self.wagon_count, berth_count: self.berth_count }
+        Stock {
+            wagons,
+            berths,
+            wagon_count: self.wagon_count,
+            berth_count: self.berth_count,
+        }
     }
 
     // A copy of the siding that has other stock and a page just begun; the demands differ by so much on the way inward from `at`.
@@ -87,7 +92,12 @@ impl Siding {
     {
         let mut demand = self.demand;
         let figure = shift(self.sections, &self.inner, &mut demand, self.figure, at, by);
-        let Stock { wagons, berths, wagon_count, berth_count } = stock;
+        let Stock {
+            wagons,
+            berths,
+            wagon_count,
+            berth_count,
+        } = stock;
         let mut next = *self;
         next.wagons = wagons;
         next.berths = berths;

@@ -96,7 +96,11 @@ impl Siding {
     {
         let was = self.demand[section];
         let demand = was + by;
-        Crossing { section, demand, figure: resized(self.figure, was, demand) }
+        Crossing {
+            section,
+            demand,
+            figure: resized(self.figure, was, demand),
+        }
     }
 }
 

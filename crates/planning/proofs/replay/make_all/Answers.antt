@@ -9,7 +9,7 @@ loop-call-holds c = After.start
 pub loop-call-again : need.loop-call-again
 loop-call-again c =
     after-more (c .args .calls .now) (c .loop-call .call-index) _ (c .loop-call-test .taken) (c .loop-call .inv)
-      (carried-makes _ _ _ (c .make .result) (c .make .ensures))
+    (carried-makes _ _ _ (c .make .result) (c .make .ensures))
 
 pub returns : need.returns
 returns c = after-all _ _ (c .loop-call-test .left) (c .loop-call .inv)

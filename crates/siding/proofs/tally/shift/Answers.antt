@@ -52,12 +52,13 @@ loop-u-again c =
     let r = c .resized-sum .ensures in
     let was = ap natAbs (stored-is (getD d u (pos 0)) (omega arith)) in
     let small : natAbs z ≤ 1000 = omega (arith, ints) in
-    let now = ap natAbs (stored-is (getD (set d u z) u (pos 0)) (omega (arith, ap natAbs same)) ∙ same) in
-    (simp length-set (c .loop-u .inv .0),
-     omega arith,
-     passed-more n inner (c .pre .tree) (c .args .at) u B (c .args .demand .now) d (c .loop-u .inv .1) (omega arith) (c .loop-u .inv .2) (omega arith) z is,
-     (λ v l. let ne : v ≢ u = omega arith in getD-set-other d u v z (pos 0) ne ∙ c .loop-u .inv .3 v l),
-     omega arith)
+    let now = ap natAbs (stored-is (getD (set d u z) u (pos 0)) (omega (arith, ap natAbs same)) ∙ same) in (
+      simp length-set (c .loop-u .inv .0),
+      omega arith,
+      passed-more n inner (c .pre .tree) (c .args .at) u B (c .args .demand .now) d (c .loop-u .inv .1) (omega arith) (c .loop-u .inv .2) (omega arith) z is,
+      (λ v l. let ne : v ≢ u = omega arith in getD-set-other d u v z (pos 0) ne ∙ c .loop-u .inv .3 v l),
+      omega arith,
+    )
 
 pub returns : need.returns
 returns c =

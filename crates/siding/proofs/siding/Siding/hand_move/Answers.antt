@@ -35,21 +35,63 @@ ghost-next c =
     let fits : SFits w16 (crossing .demand) = search needs in
     let same : toZ w16 (ofZ w16 (crossing .demand)) ≡ crossing .demand = toZ-ofZ w16 (crossing .demand) fits in
     let page : x .moves + 1 + crossing .figure ≡ x .head + 2 * (x .away + c .more .result) =
-          moved-page x m (may .legal) crossing crosses ∙ ap (λ k. x .head + 2 * (x .away + k)) (sym (c .more .ensures)) in
-    ((x .long .0, moved-long x m (may .legal), x .long .2),
-    ((x .«long_too» .0, x .«long_too» .1, simp length-set (x .«long_too» .2)),
-    (x .some, (x .most, (x .neck, (x .lower,
-    (moved-single x m (may .legal), (x .«one_berth»,
-    ((x .clear .0, moved-clear x m (may .legal), x .clear .2),
-    (moved-clear-demands x m (may .legal) crossing crosses _ same,
-    (x .«first_lowest», (x .«first_branch», (x .«next_lowest», (x .«next_branch»,
-    ((moved-count x m (may .legal), x .counts .1),
-    (moved-demands x m (may .legal) crossing crosses _ same,
-    (crosses .figure,
-    (omega (arith, may .room),
-    (page, tt)))))))))))))))))))
+    moved-page x m (may .legal) crossing crosses ∙ ap (λ k. x .head + 2 * (x .away + k)) (sym (c .more .ensures)) in (
+      (x .long .0, moved-long x m (may .legal), x .long .2),
+      (
+        (x .«long_too» .0, x .«long_too» .1, simp length-set (x .«long_too» .2)),
+        (
+          x .some,
+          (
+            x .most,
+            (
+              x .neck,
+              (
+                x .lower,
+                (
+                  moved-single x m (may .legal),
+                  (
+                    x .«one_berth»,
+                    (
+                      (x .clear .0, moved-clear x m (may .legal), x .clear .2),
+                      (
+                        moved-clear-demands x m (may .legal) crossing crosses _ same,
+                        (
+                          x .«first_lowest»,
+                          (
+                            x .«first_branch»,
+                            (
+                              x .«next_lowest»,
+                              (
+                                x .«next_branch»,
+                                (
+                                  (moved-count x m (may .legal), x .counts .1),
+                                  (
+                                    moved-demands x m (may .legal) crossing crosses _ same,
+                                    (
+                                      crosses .figure,
+                                      (
+                                        omega (arith, may .room),
+                                        (page, tt),
+                                      ),
+                                    ),
+                                  ),
+                                ),
+                              ),
+                            ),
+                          ),
+                        ),
+                      ),
+                    ),
+                  ),
+                ),
+              ),
+            ),
+          ),
+        ),
+      ),
+    )
 
 pub returns : need.returns
 returns c =
     hand-done (c .args .self .now) (record { from = c .args .from; to = c .args .to }) (c .in-Continue-may-move .ensures tt)
-      (c .crossing-crossing .result) (c .more .result) (c .crossing-crossing .ensures) (c .more .ensures) _ refl
+    (c .crossing-crossing .result) (c .more .result) (c .crossing-crossing .ensures) (c .more .ensures) _ refl

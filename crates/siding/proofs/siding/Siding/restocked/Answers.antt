@@ -33,21 +33,63 @@ ghost-next c =
     let b = may .one in
     let raw : toZ w16 (ofZ w16 (c .args .by)) ≡ c .args .by = omega (arith, ints) in
     let are : True-demands (x .sections) (x .inner) (c .args .stock .wagons) (c .args .stock .berths) (c .shift-figure .last .demand) =
-          λ s l.
-            shifted .demands s l
-            ∙ ap (λ z. getD (x .demand) s (pos 0) +ℤ cond (isBelow (x .inner) s (c .args .at)) z (pos 0)) raw
-            ∙ ap (λ z. z +ℤ cond (isBelow (x .inner) s (c .args .at)) (c .args .by) (pos 0)) (x .demands s l)
-            ∙ sym (may .demands s l) in
-    let figure = shifted .figure ∙ sizes-figure _ _ _ _ _ are in
-    ((x .long .0, may .long-wagons, may .long-berths),
-    ((x .«long_too» .0, x .«long_too» .1, shifted .long),
-    (x .some, (x .most, (x .neck, (x .lower,
-    (may .one-wagon, (may .one-berth,
-    ((x .clear .0, may .clear-wagons, may .clear-berths),
-    ((λ s l. shifted .past s l ∙ x .«clear_demand» s l),
-    (x .«first_lowest», (x .«first_branch», (x .«next_lowest», (x .«next_branch»,
-    ((may .counted-wagons, may .counted-berths),
-    (are,
-    (figure,
-    (omega arith,
-    (omega arith, tt)))))))))))))))))))
+    λ s l.
+    shifted .demands s l
+    ∙ ap (λ z. getD (x .demand) s (pos 0) +ℤ cond (isBelow (x .inner) s (c .args .at)) z (pos 0)) raw
+    ∙ ap (λ z. z +ℤ cond (isBelow (x .inner) s (c .args .at)) (c .args .by) (pos 0)) (x .demands s l)
+    ∙ sym (may .demands s l) in
+    let figure = shifted .figure ∙ sizes-figure _ _ _ _ _ are in (
+      (x .long .0, may .long-wagons, may .long-berths),
+      (
+        (x .«long_too» .0, x .«long_too» .1, shifted .long),
+        (
+          x .some,
+          (
+            x .most,
+            (
+              x .neck,
+              (
+                x .lower,
+                (
+                  may .one-wagon,
+                  (
+                    may .one-berth,
+                    (
+                      (x .clear .0, may .clear-wagons, may .clear-berths),
+                      (
+                        (λ s l. shifted .past s l ∙ x .«clear_demand» s l),
+                        (
+                          x .«first_lowest»,
+                          (
+                            x .«first_branch»,
+                            (
+                              x .«next_lowest»,
+                              (
+                                x .«next_branch»,
+                                (
+                                  (may .counted-wagons, may .counted-berths),
+                                  (
+                                    are,
+                                    (
+                                      figure,
+                                      (
+                                        omega arith,
+                                        (omega arith, tt),
+                                      ),
+                                    ),
+                                  ),
+                                ),
+                              ),
+                            ),
+                          ),
+                        ),
+                      ),
+                    ),
+                  ),
+                ),
+              ),
+            ),
+          ),
+        ),
+      ),
+    )
