@@ -1,4 +1,5 @@
 pub mod Cuts
+pub mod Days
 pub mod Digits
 pub mod Lines
 pub mod Numbers

@@ -1,16 +1,13 @@
 -- The first of the lines that bytes are cut into.
-use mathlib.Core.Path.{_≡_, refl, sym, ap, _∙_}
+use mathlib.Core.Path.{_≡_, refl, ap, _∙_}
 use mathlib.Core.Bool.{Bool, true, false}
-use mathlib.Core.List.{List, [], _∷_, _++_, append-assoc}
+use mathlib.Core.List.{List, [], _∷_}
 use Prim.Native.Nat.{ℕ, suc, _+_, _<_, _≤_}
 use native.Mathlib.Omega.{arith}
 use lib.Dec.{eqb}
 use lib.ListN.{length, take, drop, getD}
-use Rattle.std.proofs.shelf.Lists.{append-nil, at-drop-more, at-drop-all}
+use Rattle.std.proofs.shelf.Lists.{at-drop-more, at-drop-all}
 use Rattle.std.proofs.shelf.Tests.{eq-eqb, ne-eqb}
-use Rattle.motion.specs.State.{State}
-use Rattle.daybook.specs.Answer.{after}
-use Rattle.daybook.specs.Day.{answered, answers}
 use Rattle.daybook.specs.Input.{line-end, before-lines, cut, one-or-more, first-length}
 
 -- its length, byte by byte
@@ -52,19 +49,3 @@ pub cut-first : (s : List ℕ) → 0 < length s → First (cut s) (first-length 
 unfolding cut first-length
 cut-first [] some = absurd (omega arith)
 cut-first (b ∷ bs) some = first-before (eqb b line-end) b bs (cut-first bs)
-
--- a text, and then the answers of lines: the first line's goes to the text
-pub answers-first :
-    (text : List ℕ) (x : State) (s : List ℕ)
-    → 0 < length s
-    → (text ++ answered (take (first-length s) s) x) ++ answers (after (take (first-length s) s) x) (cut (drop (first-length s) s))
-    ≡ text ++ answers x (cut s)
-unfolding answers
-answers-first text x s some =
-    append-assoc text (answered (take (first-length s) s) x) (answers (after (take (first-length s) s) x) (cut (drop (first-length s) s)))
-    ∙ ap (λ lines. text ++ answers x lines) (sym (cut-first s some))
-
-pub answers-none : (text : List ℕ) (x : State) (s : List ℕ) → length s ≡ 0 → text ++ answers x (cut s) ≡ text
-unfolding cut answers
-answers-none text x [] none = append-nil text
-answers-none text x (b ∷ bs) none = absurd (omega arith)

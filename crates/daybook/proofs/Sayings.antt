@@ -1,4 +1,4 @@
--- A line says a call just where it is what the call is written as.
+-- A line says an act just where it is what the act is written as.
 use mathlib.Core.Path.{_≡_, refl, ap, _∙_}
 use mathlib.Core.Bool.{Bool, true, false, cond}
 use mathlib.Core.List.{List, [], _∷_, _++_}
@@ -13,13 +13,14 @@ use Rattle.std.specs.declared.option.Option.{Option}
 use Rattle.std.specs.declared.option.Option.the-variants.{Some, None}
 use Rattle.std.proofs.shelf.Tests.{eqb-true, and-parts, cond-both}
 use Rattle.motion.specs.declared.moves.Move.{Move}
-use Rattle.motion.specs.declared.calls.Call.{Call}
+use Rattle.motion.specs.declared.calls.Act.{Act}
+use Rattle.motion.specs.declared.calls.Act.the-variants.{Call as Called, Step}
 use Rattle.motion.specs.declared.calls.Call.the-variants.{Put, Take, Mark, Unmark, Hand, Turn}
 use Rattle.daybook.specs.Input.{line-end}
-use Rattle.daybook.specs.Line.{written, Numbers-fit, Says, lineOf, callOf, byteOf, moveOf, two-sections, sectionOf, last-section, numberOf, at-end, largest, blank}
+use Rattle.daybook.specs.Line.{written, Numbers-fit, Says, lineOf, actOf, byteOf, moveOf, two-sections, sectionOf, last-section, numberOf, at-end, largest, blank}
 use Rattle.daybook.proofs.Numbers.{Number-written, number-read, number-written}
 
--- what a call is written as says that call
+-- what an act is written as says that act
 section-read : (s : ℕ) → s ≤ largest → sectionOf (blank ∷ (decimal s ++ (line-end ∷ []))) ≡ Some s
 section-read s fits = ap last-section (number-read line-end [] refl s fits)
 
@@ -32,13 +33,14 @@ move-read m from-fits to-fits =
     ap two-sections (number-read blank (decimal (m .to) ++ (line-end ∷ [])) refl (m .from) from-fits)
     ∙ ap (mapped (λ to. record { from = m .from; to = to })) (section-read (m .to) to-fits)
 
-call-read : (c : Call) → Numbers-fit c → lineOf (written c) ≡ Some c
-call-read (Put s) fits = ap (mapped Put) (section-read s fits)
-call-read (Take s) fits = ap (mapped Take) (section-read s fits)
-call-read (Mark s) fits = ap (mapped Mark) (section-read s fits)
-call-read (Unmark s) fits = ap (mapped Unmark) (section-read s fits)
-call-read (Hand m) fits = ap (mapped Hand) (move-read m (fits .0) (fits .1))
-call-read Turn fits = refl
+act-read : (a : Act) → Numbers-fit a → lineOf (written a) ≡ Some a
+act-read (Called (Put s)) fits = ap (mapped (λ s. Called (Put s))) (section-read s fits)
+act-read (Called (Take s)) fits = ap (mapped (λ s. Called (Take s))) (section-read s fits)
+act-read (Called (Mark s)) fits = ap (mapped (λ s. Called (Mark s))) (section-read s fits)
+act-read (Called (Unmark s)) fits = ap (mapped (λ s. Called (Unmark s))) (section-read s fits)
+act-read (Called (Hand m)) fits = ap (mapped (λ m. Called (Hand m))) (move-read m (fits .0) (fits .1))
+act-read (Called Turn) fits = refl
+act-read Step fits = refl
 
 -- what holds of a value that is found under a test, or by way of another
 found-if : {A : Type 0} (P : A → Type 0) (t : Bool) (x : A) → (t ≡ true → P x) → found (whenTrue t x) P
@@ -81,13 +83,13 @@ then-section s (Some (n, rest)) was =
 move-written : (s : List ℕ) → found (moveOf s) (Move-written s)
 move-written s = then-section s (numberOf s) (number-written s)
 
--- a call that is read of a line is written as that line
-abbrev Is-written : List ℕ → Call → Type 0
-Is-written line c = (line ≡ written c) × Numbers-fit c
+-- an act that is read of a line is written as that line
+abbrev Is-written : List ℕ → Act → Type 0
+Is-written line a = (line ≡ written a) × Numbers-fit a
 
 module _ (rest : List ℕ) where
   with-section :
-      (l : ℕ) (make : ℕ → Call)
+      (l : ℕ) (make : ℕ → Act)
       → ((s : ℕ) → l ∷ blank ∷ (decimal s ++ (line-end ∷ [])) ≡ written (make s))
       → ((s : ℕ) → s ≤ largest → Numbers-fit (make s))
       → found (mapped make (sectionOf rest)) (Is-written (l ∷ rest))
@@ -95,44 +97,49 @@ module _ (rest : List ℕ) where
       found-mapped make (Section-written rest) (Is-written (l ∷ rest)) (λ s e. (ap (λ t. l ∷ t) (e .0) ∙ form s, fit s (e .1)))
       (sectionOf rest) (section-written rest)
 
-  with-move : found (mapped Hand (moveOf rest)) (Is-written (byteOf "m" ∷ rest))
+  with-move : found (mapped (λ m. Called (Hand m)) (moveOf rest)) (Is-written (byteOf "m" ∷ rest))
   with-move =
-      found-mapped Hand (Move-written rest) (Is-written (byteOf "m" ∷ rest))
+      found-mapped _ (Move-written rest) (Is-written (byteOf "m" ∷ rest))
       (λ m e. (ap (λ t. byteOf "m" ∷ t) (e .0 .0), (e .0 .1, e .1))) (moveOf rest) (move-written rest)
 
-  with-nothing : found (whenTrue (at-end rest) Turn) (Is-written (byteOf "n" ∷ rest))
-  with-nothing =
-      found-if (Is-written (byteOf "n" ∷ rest)) (at-end rest) Turn (λ end. (ap (λ t. byteOf "n" ∷ t) (end-written rest end), tt))
+  with-nothing :
+      (l : ℕ) (a : Act)
+      → l ∷ line-end ∷ [] ≡ written a
+      → Numbers-fit a
+      → found (whenTrue (at-end rest) a) (Is-written (l ∷ rest))
+  with-nothing l a form fit =
+      found-if (Is-written (l ∷ rest)) (at-end rest) a (λ end. (ap (λ t. l ∷ t) (end-written rest end) ∙ form, fit))
 
   by-letter :
-      (letter l : ℕ) (o other : Option Call)
+      (letter l : ℕ) (o other : Option Act)
       → found o (Is-written (l ∷ rest))
       → found other (Is-written (letter ∷ rest))
       → found (cond (eqb letter l) o other) (Is-written (letter ∷ rest))
   by-letter letter l o other this that =
-      let P : Option Call → Type 0 = λ o. found o (Is-written (letter ∷ rest)) in
+      let P : Option Act → Type 0 = λ o. found o (Is-written (letter ∷ rest)) in
       cond-both (eqb letter l) o other P (λ is. rw (eqb-true letter l is) this) (λ _. that)
 
-  call-written : (letter : ℕ) → found (callOf letter rest) (Is-written (letter ∷ rest))
-  call-written letter =
-      by-letter letter (byteOf "p") _ _ (with-section (byteOf "p") Put (λ _. refl) (λ _ fits. fits))
-      (by-letter letter (byteOf "t") _ _ (with-section (byteOf "t") Take (λ _. refl) (λ _ fits. fits))
-      (by-letter letter (byteOf "b") _ _ (with-section (byteOf "b") Mark (λ _. refl) (λ _ fits. fits))
-      (by-letter letter (byteOf "u") _ _ (with-section (byteOf "u") Unmark (λ _. refl) (λ _ fits. fits))
+  act-written : (letter : ℕ) → found (actOf letter rest) (Is-written (letter ∷ rest))
+  act-written letter =
+      by-letter letter (byteOf "p") _ _ (with-section (byteOf "p") (λ s. Called (Put s)) (λ _. refl) (λ _ fits. fits))
+      (by-letter letter (byteOf "t") _ _ (with-section (byteOf "t") (λ s. Called (Take s)) (λ _. refl) (λ _ fits. fits))
+      (by-letter letter (byteOf "b") _ _ (with-section (byteOf "b") (λ s. Called (Mark s)) (λ _. refl) (λ _ fits. fits))
+      (by-letter letter (byteOf "u") _ _ (with-section (byteOf "u") (λ s. Called (Unmark s)) (λ _. refl) (λ _ fits. fits))
       (by-letter letter (byteOf "m") _ _ with-move
-      (by-letter letter (byteOf "n") _ _ with-nothing tt)))))
+      (by-letter letter (byteOf "n") _ _ (with-nothing (byteOf "n") (Called Turn) refl tt)
+      (by-letter letter (byteOf "s") _ _ (with-nothing (byteOf "s") Step refl tt) tt))))))
 
 line-written : (line : List ℕ) → found (lineOf line) (Is-written line)
 line-written [] = tt
-line-written (letter ∷ rest) = call-written rest letter
+line-written (letter ∷ rest) = act-written rest letter
 
-says : (line : List ℕ) (o : Option Call) → o ≡ lineOf line → found o (Is-written line) → Says line o
-says line (Some c) e was = was
-says line None e was = λ c fits same.
-    let read = e ∙ (ap lineOf same ∙ call-read c fits) in
+says : (line : List ℕ) (o : Option Act) → o ≡ lineOf line → found o (Is-written line) → Says line o
+says line (Some a) e was = was
+says line None e was = λ a fits same.
+    let read = e ∙ (ap lineOf same ∙ act-read a fits) in
     let z : _≡_ {A = ℕ} 0 1 = cc in
     omega arith
 
 -- so what is read of a line is what it says
-pub line-says : (line : List ℕ) (o : Option Call) → o ≡ lineOf line → Says line o
+pub line-says : (line : List ℕ) (o : Option Act) → o ≡ lineOf line → Says line o
 line-says line o e = says line o e (rw e (line-written line))

@@ -1,4 +1,4 @@
--- A line: how each call is written, and the call that a line says.
+-- A line: how each act is written, and the act that a line says.
 use mathlib.Core.Path.{_≡_}
 use mathlib.Core.Bool.{Bool, cond, _&&_}
 use mathlib.Core.List.{List, [], _∷_, _++_}
@@ -13,35 +13,38 @@ use Rattle.std.specs.Written.{decimal}
 use Rattle.std.specs.declared.option.Option.{Option}
 use Rattle.std.specs.declared.option.Option.the-variants.{Some, None}
 use Rattle.motion.specs.declared.moves.Move.{Move}
-use Rattle.motion.specs.declared.calls.Call.{Call}
+use Rattle.motion.specs.declared.calls.Act.{Act}
+use Rattle.motion.specs.declared.calls.Act.the-variants.{Call as Called, Step}
 use Rattle.motion.specs.declared.calls.Call.the-variants.{Put, Take, Mark, Unmark, Hand, Turn}
 use Rattle.daybook.specs.Input.{line-end}
 
--- the line that a call is written as
-abbrev pub written : Call → List ℕ
-written (Put s) = codes "p " ++ (decimal s ++ codes "\n")
-written (Take s) = codes "t " ++ (decimal s ++ codes "\n")
-written (Mark s) = codes "b " ++ (decimal s ++ codes "\n")
-written (Unmark s) = codes "u " ++ (decimal s ++ codes "\n")
-written (Hand m) = codes "m " ++ (decimal (m .from) ++ (codes " " ++ (decimal (m .to) ++ codes "\n")))
-written Turn = codes "n\n"
+-- the line that an act is written as
+abbrev pub written : Act → List ℕ
+written (Called (Put s)) = codes "p " ++ (decimal s ++ codes "\n")
+written (Called (Take s)) = codes "t " ++ (decimal s ++ codes "\n")
+written (Called (Mark s)) = codes "b " ++ (decimal s ++ codes "\n")
+written (Called (Unmark s)) = codes "u " ++ (decimal s ++ codes "\n")
+written (Called (Hand m)) = codes "m " ++ (decimal (m .from) ++ (codes " " ++ (decimal (m .to) ++ codes "\n")))
+written (Called Turn) = codes "n\n"
+written Step = codes "s\n"
 
 -- the largest number that a line may have
 abbrev pub largest : ℕ
 largest = 65535
 
-abbrev pub Numbers-fit : Call → Type 0
-Numbers-fit (Put s) = s ≤ largest
-Numbers-fit (Take s) = s ≤ largest
-Numbers-fit (Mark s) = s ≤ largest
-Numbers-fit (Unmark s) = s ≤ largest
-Numbers-fit (Hand m) = (m .from ≤ largest) × (m .to ≤ largest)
-Numbers-fit Turn = Unit {0}
+abbrev pub Numbers-fit : Act → Type 0
+Numbers-fit (Called (Put s)) = s ≤ largest
+Numbers-fit (Called (Take s)) = s ≤ largest
+Numbers-fit (Called (Mark s)) = s ≤ largest
+Numbers-fit (Called (Unmark s)) = s ≤ largest
+Numbers-fit (Called (Hand m)) = (m .from ≤ largest) × (m .to ≤ largest)
+Numbers-fit (Called Turn) = Unit {0}
+Numbers-fit Step = Unit {0}
 
--- a line says a call where it is what the call is written as, and none where no call is written so
-abbrev pub Says : List ℕ → Option Call → Type 0
-Says line (Some c) = (line ≡ written c) × Numbers-fit c
-Says line None = (c : Call) → Numbers-fit c → line ≡ written c → ⊥
+-- a line says an act where it is what the act is written as, and none where no act is written so
+abbrev pub Says : List ℕ → Option Act → Type 0
+Says line (Some a) = (line ≡ written a) × Numbers-fit a
+Says line None = (a : Act) → Numbers-fit a → line ≡ written a → ⊥
 
 -- the byte of a letter, a digit or a blank
 abbrev pub byteOf : String → ℕ
@@ -93,17 +96,18 @@ two-sections (Some (s, rest)) = mapped (λ to. record { from = s; to = to }) (se
 abbrev pub moveOf : List ℕ → Option Move
 moveOf rest = two-sections (numberOf rest)
 
--- the call of a letter and what follows it
-abbrev pub callOf : ℕ → List ℕ → Option Call
-callOf letter rest =
-    cond (eqb letter (byteOf "p")) (mapped Put (sectionOf rest))
-    (cond (eqb letter (byteOf "t")) (mapped Take (sectionOf rest))
-    (cond (eqb letter (byteOf "b")) (mapped Mark (sectionOf rest))
-    (cond (eqb letter (byteOf "u")) (mapped Unmark (sectionOf rest))
-    (cond (eqb letter (byteOf "m")) (mapped Hand (moveOf rest))
-    (cond (eqb letter (byteOf "n")) (whenTrue (at-end rest) Turn) None)))))
+-- the act of a letter and what follows it
+abbrev pub actOf : ℕ → List ℕ → Option Act
+actOf letter rest =
+    cond (eqb letter (byteOf "p")) (mapped (λ s. Called (Put s)) (sectionOf rest))
+    (cond (eqb letter (byteOf "t")) (mapped (λ s. Called (Take s)) (sectionOf rest))
+    (cond (eqb letter (byteOf "b")) (mapped (λ s. Called (Mark s)) (sectionOf rest))
+    (cond (eqb letter (byteOf "u")) (mapped (λ s. Called (Unmark s)) (sectionOf rest))
+    (cond (eqb letter (byteOf "m")) (mapped (λ m. Called (Hand m)) (moveOf rest))
+    (cond (eqb letter (byteOf "n")) (whenTrue (at-end rest) (Called Turn))
+    (cond (eqb letter (byteOf "s")) (whenTrue (at-end rest) Step) None))))))
 
--- the call that a line says
-abbrev pub lineOf : List ℕ → Option Call
+-- the act that a line says
+abbrev pub lineOf : List ℕ → Option Act
 lineOf [] = None
-lineOf (letter ∷ rest) = callOf letter rest
+lineOf (letter ∷ rest) = actOf letter rest

@@ -1,21 +1,22 @@
 // The answer of one line.
-ghost use mathlib.Core.Path.{_≡_};
-ghost use Rattle.std.specs.Results.{Cases};
 ghost use Rattle.std.specs.declared.option.Option.the-variants.{Some};
-ghost use Rattle.siding.specs.Outcome.{Carried-out};
 ghost use Rattle.siding.specs.Stands.{stateOf};
 ghost use Rattle.daybook.specs.Line.{lineOf};
-ghost use Rattle.daybook.specs.Answer.{said, answerOf, answerShown};
+ghost use Rattle.daybook.specs.Answer.{Call-answered, Step-answered, Answered, Kept-if-refused, answerShown};
 use crate::line::read_line;
+use motion::calls::Act;
+use motion::calls::Call;
 use refusal::Refusal;
 use refusal::RefusalDebug;
 use siding::Siding;
 use std::fmt;
 
-// The figure after the call that a line says, or why it is refused.
+// The figure after a call, or after a step with the move that it made, if one was due; or why the line is refused.
 #[derive(Clone, Copy, Debug)]
 pub enum Answer {
     Done { figure: u32 },
+    Moved { from: u16, to: u16, figure: u32 },
+    Rest { figure: u32 },
     Refused(Refusal),
 }
 
@@ -26,6 +27,8 @@ pub impl fmt::Display for Answer as AnswerDisplay {
     fn fmt<W: fmt::Write>(&self, f: &mut fmt::Formatter<W>) -> fmt::Result {
         match *self {
             Answer::Done { figure } => write!(f, "ok {figure}"),
+            Answer::Moved { from, to, figure } => write!(f, "{from} {to} {figure}"),
+            Answer::Rest { figure } => write!(f, "- {figure}"),
             Answer::Refused(refusal) => {
                 let number = refusal.number();
                 write!(f, "no {number}")
@@ -34,25 +37,43 @@ pub impl fmt::Display for Answer as AnswerDisplay {
     }
 }
 
-// Makes the call that a line says, and answers; where it is refused, the siding stays as it was.
+// Does what a line says, and answers; where it is refused, the siding stays as it was.
 pub fn answer_to(siding: &mut Siding, line: &[u8]) -> Answer
-    ensures answer { λ r. ⌜ r ≡ answerOf (now (line .entry)) (stateOf (now (siding .entry))) ⌝ }
-    ensures stands { λ _. ⌜ Cases (said (lineOf (now (line .entry))) (stateOf (now (siding .entry)))) (λ x. stateOf (now (siding .exit)) ≡ x) (λ _. now (siding .exit) ≡ now (siding .entry)) ⌝ }
+    ensures answer { λ r. ⌜ Answered (lineOf (now (line .entry))) (stateOf (now (siding .entry))) (stateOf (now (siding .exit))) r ⌝ }
+    ensures kept { λ r. ⌜ Kept-if-refused r (now (siding .entry)) (now (siding .exit)) ⌝ }
 {
-    match make_said(siding, line) {
-        Ok(()) => Answer::Done {
-            figure: siding.figure(),
-        },
+    match read_line(line) {
+        Some(Act::Call(call)) => answer_to_call(siding, call),
+        Some(Act::Step) => answer_to_step(siding),
+        None => Answer::Refused(Refusal::BadLine),
+    }
+}
+
+fn answer_to_call(siding: &mut Siding, call: Call) -> Answer
+    ensures answer { λ r. ⌜ Call-answered call (stateOf (now (siding .entry))) (stateOf (now (siding .exit))) r ⌝ }
+    ensures kept { λ r. ⌜ Kept-if-refused r (now (siding .entry)) (now (siding .exit)) ⌝ }
+{
+    let made = siding.make(call);
+    let figure = siding.figure();
+    match made {
+        Ok(()) => Answer::Done { figure },
         Err(refusal) => Answer::Refused(refusal),
     }
 }
 
-// The same, with the reason where it is refused.
-fn make_said(siding: &mut Siding, line: &[u8]) -> Result<(), Refusal>
-    ensures { λ r. ⌜ Carried-out (said (lineOf (now (line .entry))) (stateOf (now (siding .entry)))) r (now (siding .entry)) (now (siding .exit)) ⌝ }
+fn answer_to_step(siding: &mut Siding) -> Answer
+    ensures answer { λ r. ⌜ Step-answered (stateOf (now (siding .entry))) (stateOf (now (siding .exit))) r ⌝ }
+    ensures kept { λ r. ⌜ Kept-if-refused r (now (siding .entry)) (now (siding .exit)) ⌝ }
 {
-    match read_line(line) {
-        Some(call) => siding.make(call),
-        None => Err(Refusal::BadLine),
+    let stepped = siding.step();
+    let figure = siding.figure();
+    match stepped {
+        Ok(Some(m)) => Answer::Moved {
+            from: m.from,
+            to: m.to,
+            figure,
+        },
+        Ok(None) => Answer::Rest { figure },
+        Err(refusal) => Answer::Refused(refusal),
     }
 }

@@ -1,12 +1,9 @@
 // A day's whole answer.
-ghost use mathlib.Core.Path.{_≡_};
-ghost use mathlib.Core.List.{_++_};
 ghost use Rattle.std.specs.Of.String.{string-bytes};
 ghost use Rattle.std.specs.Vec.{made};
 ghost use Rattle.daybook.specs.Input.{cut};
 ghost use Rattle.siding.specs.Stands.{stateOf};
-ghost use Rattle.daybook.specs.Answer.{after};
-ghost use Rattle.daybook.specs.Day.{answered, answers, dayOf};
+ghost use Rattle.daybook.specs.Day.{One-more, More, Day};
 use crate::answer::AnswerDisplay;
 use crate::answer::answer_to;
 use crate::input::first_length;
@@ -20,7 +17,7 @@ use std::alloc::Global;
 
 // The answer to an input: the opening and, if a siding was drawn up, the answer of each line.
 pub fn day(heap: Global, input: &[u8]) -> Result<String, AllocError>
-    ensures { λ r. ⌜ made r (λ text. string-bytes text ≡ dayOf (now (input .entry))) ⌝ }
+    ensures { λ r. ⌜ made r (λ text. Day (now (input .entry)) (string-bytes text)) ⌝ }
 {
     let mut siding = Siding::bare();
     let opening = open(&mut siding, input);
@@ -34,7 +31,7 @@ pub fn day(heap: Global, input: &[u8]) -> Result<String, AllocError>
 
 // Appends the answer of each line.
 fn answer_lines(text: &mut String, siding: &mut Siding, lines: &[u8]) -> Result<(), AllocError>
-    ensures { λ r. ⌜ made r (λ _. string-bytes (now (text .exit)) ≡ string-bytes (now (text .entry)) ++ answers (stateOf (now (siding .entry))) (cut (now (lines .entry)))) ⌝ }
+    ensures { λ r. ⌜ made r (λ _. More (cut (now (lines .entry))) (stateOf (now (siding .entry))) (string-bytes (now (text .entry))) (string-bytes (now (text .exit)))) ⌝ }
 {
     let mut rest = lines;
     while !rest.is_empty() {
@@ -45,9 +42,9 @@ fn answer_lines(text: &mut String, siding: &mut Siding, lines: &[u8]) -> Result<
     Ok(())
 }
 
+// Appends the answer of one line.
 fn answer_line(text: &mut String, siding: &mut Siding, line: &[u8]) -> Result<(), AllocError>
-    ensures text { λ r. ⌜ made r (λ _. string-bytes (now (text .exit)) ≡ string-bytes (now (text .entry)) ++ answered (now (line .entry)) (stateOf (now (siding .entry)))) ⌝ }
-    ensures stands { λ _. ⌜ stateOf (now (siding .exit)) ≡ after (now (line .entry)) (stateOf (now (siding .entry))) ⌝ }
+    ensures { λ r. ⌜ made r (λ _. One-more (now (line .entry)) (stateOf (now (siding .entry))) (stateOf (now (siding .exit))) (string-bytes (now (text .entry))) (string-bytes (now (text .exit)))) ⌝ }
 {
     let answer = answer_to(siding, line);
     match writeln!(text, "{answer}") {

@@ -1,9 +1,10 @@
-// A line, read as the call that it says.
+// A line, read as the act that it says.
 ghost use mathlib.Core.Path.{_≡_};
 ghost use Rattle.std.specs.Options.{Cases};
 ghost use Rattle.std.specs.declared.option.Option.the-variants.{Some, None};
-ghost use Rattle.daybook.specs.Line.{Says, lineOf, callOf, moveOf, sectionOf, at-end, numberOf, digits-from};
+ghost use Rattle.daybook.specs.Line.{Says, lineOf, actOf, moveOf, sectionOf, at-end, numberOf, digits-from};
 use crate::input::LINE_END;
+use motion::calls::Act;
 use motion::calls::Call;
 use motion::moves::Move;
 
@@ -12,26 +13,27 @@ const BLANK: u8 = b' ';
 // The largest number that a line may have.
 const LARGEST: u32 = 65_535;
 
-// The call that a line says, if it says one.
-pub fn read_line(line: &[u8]) -> Option<Call>
+// The act that a line says, if it says one.
+pub fn read_line(line: &[u8]) -> Option<Act>
     ensures meant { λ r. ⌜ r ≡ lineOf (now (line .entry)) ⌝ }
     ensures form { λ r. ⌜ Says (now (line .entry)) r ⌝ }
 {
     let (letter, rest) = line.split_first()?;
-    read_call(*letter, rest)
+    read_act(*letter, rest)
 }
 
-// The call of a letter and what follows it.
-fn read_call(letter: u8, rest: &[u8]) -> Option<Call>
-    ensures { λ r. ⌜ r ≡ callOf letter (now (rest .entry)) ⌝ }
+// The act of a letter and what follows it.
+fn read_act(letter: u8, rest: &[u8]) -> Option<Act>
+    ensures { λ r. ⌜ r ≡ actOf letter (now (rest .entry)) ⌝ }
 {
     match letter as char {
-        'p' => Some(Call::Put(read_section(rest)?)),
-        't' => Some(Call::Take(read_section(rest)?)),
-        'b' => Some(Call::Mark(read_section(rest)?)),
-        'u' => Some(Call::Unmark(read_section(rest)?)),
-        'm' => Some(Call::Hand(read_move(rest)?)),
-        'n' if is_end(rest) => Some(Call::Turn),
+        'p' => Some(Act::Call(Call::Put(read_section(rest)?))),
+        't' => Some(Act::Call(Call::Take(read_section(rest)?))),
+        'b' => Some(Act::Call(Call::Mark(read_section(rest)?))),
+        'u' => Some(Act::Call(Call::Unmark(read_section(rest)?))),
+        'm' => Some(Act::Call(Call::Hand(read_move(rest)?))),
+        'n' if is_end(rest) => Some(Act::Call(Call::Turn)),
+        's' if is_end(rest) => Some(Act::Step),
         _ => None,
     }
 }

@@ -10,7 +10,7 @@ struct Row {
     answer: &'static str,
 }
 
-const ROWS: [Row; 25] = [
+const ROWS: [Row; 27] = [
     // the fork
     Row {
         input: b"\x00\x04\x00\x01\x00\x00\x00\x00\x00\x00\x00\x01\x00\x00\x02\x01",
@@ -96,10 +96,10 @@ const ROWS: [Row; 25] = [
         input: b"\x04\x00\x01\x00",
         answer: "no 2 0\n",
     },
-    // a line, an empty line, and a rest without an end
+    // a step where nothing is due, an empty line, and a rest without an end
     Row {
         input: b"\x00\x01\x00\x00\x00\x00\x00s\n\nn",
-        answer: "1 0 0\nno 15\nno 15\nno 15\n",
+        answer: "1 0 0\n- 0\nno 15\nno 15\n",
     },
     Row {
         input: b"\x00\x01\x00\x00\x00\x00\x00\n",
@@ -109,6 +109,16 @@ const ROWS: [Row; 25] = [
     Row {
         input: b"\x00\x04\x00\x01\x00\x00\x00\x00\x00\x00\x00\x01\x00\x00\x02\x01m 3 1\nm 1 3\nm 0 3\n",
         answer: "4 1 3\nok 2\nok 3\nno 9\n",
+    },
+    // the same, stepped to its end between them
+    Row {
+        input: b"\x00\x04\x00\x01\x00\x00\x00\x00\x00\x00\x00\x01\x00\x00\x02\x01m 3 1\nm 1 3\ns\ns\ns\ns\nm 0 3\n",
+        answer: "4 1 3\nok 2\nok 3\n3 1 2\n1 0 1\n0 2 0\n- 0\nno 9\n",
+    },
+    // no step while the numbers differ
+    Row {
+        input: b"\x00\x04\x00\x01\x00\x00\x00\x00\x00\x00\x00\x01\x00\x00\x02\x01s\np 1\ns\nt 0\ns\n",
+        answer: "4 1 3\n3 1 2\nno 7\n1 0 1\nok 1\nno 10\n",
     },
     // into a filled section, out of an empty one, and no such section
     Row {
@@ -120,10 +130,10 @@ const ROWS: [Row; 25] = [
         input: b"\x00\x04\x00\x01\x00\x00\x00\x00\x00\x00\x00\x01\x00\x00\x02\x01b 3\nu 2\nt 3\np 0\nn\nt 3\nu 2\np 0\nb 3\n",
         answer: "4 1 3\nok 1\nok 0\nok 2\nok 2\nok 2\nno 8\nno 8\nno 7\nno 7\n",
     },
-    // lines out of form: a step, leading zeros, blanks, a carriage return, numbers too large, parts too few and too many
+    // lines out of form: a step with more, leading zeros, blanks, a carriage return, numbers too large, parts too few and too many
     Row {
-        input: b"\x00\x01\x00\x00\x00\x00\x00s\np 00\np 01\np  0\np 0 \np 0\r\np\np \np 65536\np 99999999999999999999\nn \nn 0\nm 0\nm 0 0 0\nP 0\n0\n",
-        answer: "1 0 0\nno 15\nno 15\nno 15\nno 15\nno 15\nno 15\nno 15\nno 15\nno 15\nno 15\nno 15\nno 15\nno 15\nno 15\nno 15\nno 15\n",
+        input: b"\x00\x01\x00\x00\x00\x00\x00s \ns 0\nS\np 00\np 01\np  0\np 0 \np 0\r\np\np \np 65536\np 99999999999999999999\nn \nn 0\nm 0\nm 0 0 0\nP 0\n0\n",
+        answer: "1 0 0\nno 15\nno 15\nno 15\nno 15\nno 15\nno 15\nno 15\nno 15\nno 15\nno 15\nno 15\nno 15\nno 15\nno 15\nno 15\nno 15\nno 15\nno 15\n",
     },
     // a line without its end is not done
     Row {

@@ -1,6 +1,9 @@
 // Sidings, read and written.
+use motion::calls::Act;
 use motion::calls::Call;
 use motion::moves::Move;
+use motion::moves::MoveDebug;
+use motion::moves::MovePartialEq;
 use planning::account::Account;
 use planning::account::AccountDebug;
 use planning::account::AccountPartialEq;
@@ -9,6 +12,7 @@ use refusal::Refusal;
 use refusal::RefusalDebug;
 use refusal::RefusalPartialEq;
 use siding::Siding;
+use std::alloc::Global;
 use std::test::*;
 
 const FORK: &[u8] = b"\x00\x04\x00\x01\x00\x00\x00\x00\x00\x00\x00\x01\x00\x00\x02\x01";
@@ -70,7 +74,11 @@ fn refused_sheet_changes_nothing() -> Result<(), Fail> {
 #[test]
 fn page_is_turned() -> Result<(), Fail> {
     let mut siding = Siding::bare();
-    let account = replay(&mut siding, FORK, &[Call::Turn, Call::Turn])?;
+    let account = replay(
+        &mut siding,
+        FORK,
+        &[Act::Call(Call::Turn), Act::Call(Call::Turn)],
+    )?;
     check_eq(
         account,
         Account {
@@ -81,7 +89,7 @@ fn page_is_turned() -> Result<(), Fail> {
         },
     )?;
     check_eq(
-        replay(&mut siding, b"", &[Call::Turn]),
+        replay(&mut siding, b"", &[Act::Call(Call::Turn)]),
         Err(Refusal::SheetLength),
     )
 }
@@ -164,24 +172,108 @@ fn page_fills() -> Result<(), Fail> {
     check_eq(siding.moves(), 1)
 }
 
-// Calls, some of them refused, in one run.
+// Calls and steps, some of them refused, in one run.
 #[test]
-fn calls_are_made() -> Result<(), Fail> {
+fn acts_are_done() -> Result<(), Fail> {
     let mut siding = Siding::bare();
-    let calls = [
-        Call::Hand(Move { from: 3, to: 1 }),
-        Call::Hand(Move { from: 0, to: 3 }),
-        Call::Hand(Move { from: 1, to: 3 }),
-        Call::Take(2),
+    let acts = [
+        Act::Call(Call::Hand(Move { from: 3, to: 1 })),
+        Act::Call(Call::Hand(Move { from: 0, to: 3 })),
+        Act::Call(Call::Hand(Move { from: 1, to: 3 })),
+        Act::Call(Call::Take(2)),
+        Act::Step,
     ];
-    let account = replay(&mut siding, FORK, &calls)?;
+    let account = replay(&mut siding, FORK, &acts)?;
     check_eq(
         account,
         Account {
-            figure: 3,
+            figure: 2,
             head: 3,
-            moves: 2,
+            moves: 3,
             away: 1,
         },
     )
+}
+
+// A line of three: the outer wagon makes room first.
+#[test]
+fn room_is_made_first() -> Result<(), Fail> {
+    let mut siding = Siding::bare();
+    siding.draw_up(b"\x00\x03\x00\x02\x00\x00\x00\x00\x00\x01\x01\x03\x02")?;
+    check_eq(siding.figure(), 2)?;
+    check_eq(siding.step(), Ok(Some(Move { from: 1, to: 2 })))?;
+    check_eq(siding.step(), Ok(Some(Move { from: 0, to: 1 })))?;
+    check_eq(siding.step(), Ok(None))?;
+    check_eq(siding.moves(), 2)?;
+    check_eq(siding.away(), 0)
+}
+
+// With more wagons than berths, or fewer, no step is made.
+#[test]
+fn uneven_numbers() -> Result<(), Fail> {
+    let mut siding = Siding::bare();
+    siding.put(0)?;
+    check_eq(siding.figure(), 0)?;
+    check_eq(siding.step(), Err(Refusal::NumbersDiffer))?;
+    siding.mark(0)?;
+    check_eq(siding.step(), Ok(None))?;
+    siding.take(0)?;
+    check_eq(siding.step(), Err(Refusal::NumbersDiffer))
+}
+
+// On a full page a step with a move due is refused, and one without is not.
+#[test]
+fn step_on_a_full_page() -> Result<(), Fail> {
+    let mut siding = fork()?;
+    for _ in 0..250_000u32 {
+        siding.hand_move(3, 1)?;
+        siding.hand_move(1, 3)?;
+    }
+    check_eq(siding.step(), Err(Refusal::PageFull))?;
+    siding.turn_page();
+    for _ in 0..3 {
+        check(siding.step()? != None)?;
+    }
+    for _ in 0..249_998u32 {
+        siding.hand_move(2, 0)?;
+        siding.hand_move(0, 2)?;
+    }
+    siding.hand_move(2, 0)?;
+    check_eq(siding.moves(), 500_000)?;
+    check_eq(siding.step(), Err(Refusal::PageFull))
+}
+
+// The sheet of a line: each section hangs on the one before.
+fn line_sheet(heap: Global, sections: u16, wagons: u16) -> Result<Vec<u8>, Fail> {
+    let mut sheet = Vec::new(heap);
+    sheet.extend_from_slice(&sections.to_be_bytes())?;
+    sheet.extend_from_slice(&wagons.to_be_bytes())?;
+    sheet.extend_from_slice(&[0, 0])?;
+    for s in 1..sections {
+        sheet.extend_from_slice(&(s - 1).to_be_bytes())?;
+    }
+    Ok(sheet)
+}
+
+// A line of 512, with 256 wagons at the neck's end and 256 berths at the other: 256 wagons go 256 sections each.
+#[test]
+fn longest_line(rt: LibcRuntime) -> Result<(), Fail> {
+    let mut sheet = line_sheet(rt.alloc(), 512, 256)?;
+    for _ in 0..256 {
+        sheet.push(1)?;
+    }
+    for _ in 0..256 {
+        sheet.push(2)?;
+    }
+    let mut siding = Siding::bare();
+    siding.draw_up(sheet.as_slice())?;
+    check_eq(siding.figure(), 65_536)?;
+    for _ in 0..65_536u32 {
+        check(siding.step()? != None)?;
+    }
+    check_eq(siding.step(), Ok(None))?;
+    check_eq(siding.moves(), 65_536)?;
+    check_eq(siding.figure(), 0)?;
+    check_eq(siding.mark_of(0), Ok(0))?;
+    check_eq(siding.mark_of(511), Ok(3))
 }

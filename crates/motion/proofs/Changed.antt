@@ -12,11 +12,26 @@ use Rattle.std.proofs.shelf.Tests.{cases-eq, cond-true, cond-false, eq-eqb, ne-
 use Rattle.std.proofs.shelf.Ways.{tells}
 use Rattle.motion.specs.declared.moves.Move.{Move}
 use Rattle.motion.specs.Tree.{Tree, Branch, isBelow, sumTo, total, under}
+use Rattle.motion.specs.Demand.{Single}
 use Rattle.motion.specs.Moves.{one-less, one-more, moved, Legal, crosses-inward, crosses-outward, one-if}
 use Rattle.motion.proofs.Sums.{sum-one}
 use Rattle.motion.proofs.Underneath.{below-inner, below-high, below-self}
 
 module _ (n : ℕ) (xs : List ℕ) (s : ℕ) (l : s < n) (long : n ≤ length xs) where
+  -- at most one stays at most one
+  single-set : (v : ℕ) → v ≤ 1 → Single n xs → Single n (set xs s v)
+  single-set v few single t h =
+      ⊎-elim
+      (λ (e : t ≡ s). let a : getD (set xs s v) t 0 ≡ v = ap (λ k. getD (set xs s v) k 0) e ∙ getD-set-same xs s v 0 (omega arith) in omega arith)
+      (λ (ne : t ≡ s → ⊥). let a = getD-set-other xs s t v 0 ne in let b = single t h in omega arith)
+      (cases-eq t s)
+
+  pub single-more : getD xs s 0 ≡ 0 → Single n xs → Single n (one-more xs s)
+  single-more none single = single-set (getD xs s 0 + 1) (omega arith) single
+
+  pub single-less : Single n xs → Single n (one-less xs s)
+  single-less single = single-set (getD xs s 0 - 1) (let b = single s l in omega arith) single
+
   at-same : (v : ℕ) → getD (set xs s v) s 0 ≡ v
   at-same v = getD-set-same xs s v 0 (omega arith)
 

@@ -19,7 +19,7 @@ use Rattle.motion.proofs.Sums.{sum-same, sum-zero, sum-add, sum-below}
 use Rattle.motion.proofs.Crossings.{crossings-balance, total-led, crosses-other, inward-no, outward-no}
 
 -- sums are equal and no part is less: the parts are equal
-squeezed : (f g : ℕ → ℕ) (n : ℕ) → ((t : ℕ) → t < n → f t ≤ g t) → sumTo f n ≡ sumTo g n → (t : ℕ) → t < n → f t ≡ g t
+pub squeezed : (f g : ℕ → ℕ) (n : ℕ) → ((t : ℕ) → t < n → f t ≤ g t) → sumTo f n ≡ sumTo g n → (t : ℕ) → t < n → f t ≡ g t
 unfolding sumTo
 squeezed f g zero le e t l = let z : ⊥ = omega arith in absurd z
 squeezed f g (suc n) le e t l =

@@ -4,3 +4,7 @@ pub mod Moves
 pub mod State
 pub mod Calls
 pub mod Floor
+pub mod Visit
+pub mod Due
+pub mod Stepping
+pub mod Promises

@@ -1,4 +1,4 @@
-// What can be asked of a siding that changes it.
+// The calls that change a siding, besides the step.
 use crate::moves::Move;
 use crate::moves::MoveDebug;
 use crate::moves::MovePartialEq;
@@ -15,4 +15,11 @@ pub enum Call {
     Hand(Move),
     // a page is begun
     Turn,
+}
+
+// What can be done to a siding: a call, or a step, which makes the move that is due.
+#[derive(Clone, Copy, PartialEq, Eq, Debug)]
+pub enum Act {
+    Call(Call),
+    Step,
 }

@@ -4,6 +4,7 @@ ghost use Prim.Native.Nat.{_*_};
 ghost use Rattle.motion.specs.Demand.{Below-is-tested, Sum-below-splits, Demands-within, Figures-within};
 ghost use Rattle.motion.specs.Calls.{One-end, Some-end, Every-split};
 ghost use Rattle.motion.specs.Floor.{One-demand-changes, Crossings-balance, Figure-is-a-floor};
+ghost use Rattle.motion.specs.Stepping.{One-due, Due-while-unsettled, Due-is-legal, Stepping-ends, One-stepping, Stepping-fills, Steps-are-the-plan};
 
 // The largest demand of a section, and without its sign the smallest.
 pub fn largest_demand() -> u16
@@ -43,6 +44,19 @@ pub fn runs_stand() -> u8
     ensures one_end { λ _. ⌜ One-end ⌝ }
     ensures some_end { λ _. ⌜ Some-end ⌝ }
     ensures every_split { λ _. ⌜ Every-split ⌝ }
+{
+    0
+}
+
+// That one move is due while some section is unsettled, what it does, and where stepping on leads.
+pub fn steps_stand() -> u8
+    ensures one_due { λ _. ⌜ One-due ⌝ }
+    ensures due_while_unsettled { λ _. ⌜ Due-while-unsettled ⌝ }
+    ensures due_is_legal { λ _. ⌜ Due-is-legal ⌝ }
+    ensures stepping_ends { λ _. ⌜ Stepping-ends ⌝ }
+    ensures one_stepping { λ _. ⌜ One-stepping ⌝ }
+    ensures stepping_fills { λ _. ⌜ Stepping-fills ⌝ }
+    ensures steps_are_the_plan { λ _. ⌜ Steps-are-the-plan ⌝ }
 {
     0
 }

@@ -2,3 +2,4 @@
 pub mod calls;
 pub mod laws;
 pub mod moves;
+pub mod ways;

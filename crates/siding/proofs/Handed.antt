@@ -10,7 +10,7 @@ use lib.IntN.{ℤ, pos, negsuc, natAbs, _+ℤ_}
 use lib.ListN.{getD, set, length}
 use Rattle.std.proofs.shelf.Lists.{getD-set-same, getD-set-other, length-set}
 use Rattle.std.proofs.shelf.Signed.{ints}
-use Rattle.std.proofs.shelf.Tests.{cases-eq, cond-true, cond-false, lt-ltb, eq-eqb, ne-eqb, and-from, or-left, or-right}
+use Rattle.std.proofs.shelf.Tests.{cases-eq, cond-true, cond-false, lt-ltb, le-ltb, eq-eqb, ne-eqb, and-from, or-left, or-right}
 use Rattle.motion.specs.Tree.{Tree, total}
 use Rattle.motion.specs.Demand.{demandOf, figureOf, Single}
 use Rattle.motion.specs.Moves.{Neighbours, moved, one-less, one-more, Legal, one-if}
@@ -18,18 +18,21 @@ use Rattle.motion.specs.State.{State, Balances, most-moves}
 use Rattle.motion.specs.Calls.{hand-moved}
 use Rattle.motion.specs.declared.calls.Call.the-variants.{Hand}
 use Rattle.motion.specs.declared.moves.Move.{Move}
-use Rattle.motion.proofs.Changed.{length-moved, total-moved}
+use Rattle.motion.proofs.Changed.{length-moved, total-moved, single-more, single-less}
 use Rattle.motion.proofs.Crossings.{one-demand-changes, figure-moved}
 use Rattle.motion.proofs.Pages.{hand-balances, legal-apart}
 use Rattle.siding.specs.declared.siding.Siding.{Siding}
 use Rattle.siding.specs.declared.siding.hand.Crossing.{Crossing}
 use Rattle.siding.specs.Hand.{Crosses, May-move}
 use Rattle.siding.specs.Outcome.{outcome, are-neighbours}
-use Rattle.std.specs.declared.result.Result.the-variants.{Ok}
+use Rattle.std.specs.declared.result.Result.the-variants.{Ok, Err}
+use Rattle.std.specs.declared.result.Result.{Result}
+use Rattle.refusal.specs.declared.Refusal.{Refusal}
+use Rattle.refusal.specs.declared.Refusal.the-variants.{PageFull}
 use Rattle.siding.specs.Kept.{Clear, True-demands, Clear-demands}
 use Rattle.siding.specs.Stands.{stateOf}
 use Rattle.siding.proofs.Held.{held-tree}
-use Rattle.siding.proofs.Stocked.{single-more, single-less, clear-set}
+use Rattle.siding.proofs.Stocked.{clear-set}
 
 module _ (x : Siding) (m : Move) (legal : Legal (x .sections) (x .inner) (x .wagons) m) where
   long : x .sections ≤ length (x .wagons)
@@ -144,6 +147,20 @@ legal-outcome x m legal room =
     ∙ cond-false (eqb (getD (x .wagons) (m .from) 0) 0) _ _ (ne-eqb (getD (x .wagons) (m .from) 0) 0 (λ e. omega (arith, legal .there)))
     ∙ cond-true (eqb (getD (x .wagons) (m .to) 0) 0) _ _ (eq-eqb (getD (x .wagons) (m .to) 0) 0 (legal .free))
     ∙ cond-true (ltb (x .moves) most-moves) _ _ (lt-ltb (x .moves) most-moves room)
+
+-- and on a page without room it meets just that refusal
+pub full-outcome :
+    (x : State) (m : Move) → Legal (x .sections) (x .inner) (x .wagons) m → most-moves ≤ x .moves → outcome (Hand m) x ≡ Err PageFull
+full-outcome x m legal full =
+    cond-true (ltb (m .from) (x .sections)) _ _ (lt-ltb (m .from) (x .sections) (legal .from-in))
+    ∙ cond-true (ltb (m .to) (x .sections)) _ _ (lt-ltb (m .to) (x .sections) (legal .to-in))
+    ∙ cond-true (are-neighbours (x .inner) (m .from) (m .to)) _ _ (neighbours-tested (x .sections) (x .inner) (m .from) (m .to) (legal .neighbours))
+    ∙ cond-false (eqb (getD (x .wagons) (m .from) 0) 0) _ _ (ne-eqb (getD (x .wagons) (m .from) 0) 0 (λ e. omega (arith, legal .there)))
+    ∙ cond-true (eqb (getD (x .wagons) (m .to) 0) 0) _ _ (eq-eqb (getD (x .wagons) (m .to) 0) 0 (legal .free))
+    ∙ cond-false (ltb (x .moves) most-moves) _ _ (le-ltb (x .moves) most-moves full)
+
+pub same-ok : (a y : State) → _≡_ {A = Result State Refusal} (Ok a) (Ok y) → y ≡ a
+same-ok a y h = cc
 
 -- a siding after a move, on the same page
 abbrev away-counted : State → List ℕ → ℕ → State

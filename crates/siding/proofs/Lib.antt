@@ -14,3 +14,6 @@ pub mod Held
 pub mod Stocked
 pub mod Handed
 pub mod Outcomes
+pub mod Row
+pub mod Visits
+pub mod Firsts

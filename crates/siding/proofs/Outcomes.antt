@@ -15,14 +15,19 @@ use Rattle.refusal.specs.declared.Refusal.the-variants.{NoSection, AlreadyThere
 use Rattle.motion.specs.Tree.{Branch, isBranch}
 use Rattle.motion.specs.Moves.{Neighbours, Legal}
 use Rattle.motion.specs.State.{State, most-moves}
-use Rattle.motion.specs.Calls.{Does, Makes}
+use Rattle.motion.specs.Calls.{Does, Done, Makes}
+use Rattle.motion.proofs.DueMoves.{none-due}
+use Rattle.std.specs.declared.option.Option.{Option}
+use Rattle.std.specs.declared.option.Option.the-variants.{Some, None}
 use Rattle.motion.specs.declared.moves.Move.{Move}
+use Rattle.motion.specs.declared.calls.Act.the-variants.{Call as Called, Step}
 use Rattle.motion.specs.declared.calls.Call.{Call}
 use Rattle.motion.specs.declared.calls.Call.the-variants.{Put, Take, Mark, Unmark, Hand, Turn}
 use Rattle.siding.specs.declared.siding.Siding.{Siding}
 use Rattle.siding.specs.Outcome.{outcome, on-section, into-empty, from-full, are-neighbours, between-neighbours, on-page, Carried-out}
 use Rattle.siding.specs.Stands.{stateOf}
-use Rattle.siding.proofs.Handed.{legal-outcome}
+use Rattle.siding.specs.Steps.{Stepped}
+use Rattle.siding.proofs.Handed.{legal-outcome, same-ok}
 
 -- a test stands before the rest: with an outcome it was passed, and the rest has that outcome
 passed : (b : Bool) (rest : Result State Refusal) (e : Refusal) (y : State) → cond b rest (Err e) ≡ Ok y → (b ≡ true) × (rest ≡ Ok y)
@@ -32,9 +37,6 @@ passed false rest e y h = let z : _≡_ {A = ℕ} 0 1 = cc in absurd (omega arit
 not-failed : (b : Bool) (rest : Result State Refusal) (e : Refusal) (y : State) → cond b (Err e) rest ≡ Ok y → (b ≡ false) × (rest ≡ Ok y)
 not-failed true rest e y h = let z : _≡_ {A = ℕ} 0 1 = cc in absurd (omega arith)
 not-failed false rest e y h = (refl, h)
-
-same-ok : (a y : State) → _≡_ {A = Result State Refusal} (Ok a) (Ok y) → y ≡ a
-same-ok a y h = cc
 
 positive : (k : ℕ) → eqb k 0 ≡ false → 0 < k
 positive k h = let ne = eqb-false k 0 h in omega arith
@@ -117,9 +119,20 @@ does-outcome (Hand m) x y d = legal-outcome x m (d .0) (d .1) ∙ ap Ok (sym (d 
 does-outcome Turn x y d = ap Ok (sym d)
 
 -- so a call that was carried out was made
-pub carried-makes : (c : Call) (before after : Siding) (r : Result (Unit {0}) Refusal) → Carried-out (outcome c (stateOf before)) r before after → Makes c (stateOf before) (stateOf after)
+pub carried-makes : (c : Call) (before after : Siding) (r : Result (Unit {0}) Refusal) → Carried-out (outcome c (stateOf before)) r before after → Makes (Called c) (stateOf before) (stateOf after)
 carried-makes c before after (Ok u) h = Makes.done (outcome-does c (stateOf before) (stateOf after) h)
 carried-makes c before after (Err e) h =
     Makes.refused
     (λ z d. let same = does-outcome c (stateOf before) z d in let other = h .0 in let w : _≡_ {A = ℕ} 0 1 = cc in omega arith)
     (ap stateOf (h .1))
+
+-- and a step that was made or refused
+pub stepped-makes : (before after : Siding) (r : Result (Option Move) Refusal) → Stepped before after r → Makes Step (stateOf before) (stateOf after)
+stepped-makes before after (Ok (Some m)) (equal, due, room, e) = Makes.done (equal, inl (m, due, room, e))
+stepped-makes before after (Ok None) (equal, settled, e) = Makes.done (equal, inr (settled, ap stateOf e))
+stepped-makes before after (Err e) (inl (differ, _), same) = Makes.refused (λ z d. differ (d .0)) (ap stateOf same)
+stepped-makes before after (Err e) (inr (equal, (m, due), full, _), same) = Makes.refused (λ z d. no-step z d) (ap stateOf same)
+  where
+    no-step : (z : State) → Done Step (stateOf before) z → ⊥
+    no-step z (_, inl (k, other, room, _)) = omega arith
+    no-step z (_, inr (settled, _)) = none-due settled due

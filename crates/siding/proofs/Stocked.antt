@@ -13,25 +13,12 @@ use Rattle.std.proofs.shelf.Tests.{cases-eq}
 use Rattle.motion.specs.Tree.{isBelow, total}
 use Rattle.motion.specs.Demand.{demandOf, Single}
 use Rattle.motion.specs.Moves.{one-less, one-more, one-if}
-use Rattle.motion.proofs.Changed.{under-more, under-less, total-more, total-less}
+use Rattle.motion.proofs.Changed.{single-more, single-less, under-more, under-less, total-more, total-less}
 use Rattle.siding.specs.declared.siding.Siding.{Siding}
 use Rattle.siding.specs.Kept.{Clear}
 use Rattle.siding.specs.Restock.{May-stand}
 
 module _ (n : ℕ) (xs : List ℕ) (s : ℕ) (l : s < n) (long : n ≤ length xs) where
-  single-set : (v : ℕ) → v ≤ 1 → Single n xs → Single n (set xs s v)
-  single-set v few single t h =
-      ⊎-elim
-      (λ (e : t ≡ s). let a : getD (set xs s v) t 0 ≡ v = ap (λ k. getD (set xs s v) k 0) e ∙ getD-set-same xs s v 0 (omega arith) in omega arith)
-      (λ (ne : t ≡ s → ⊥). let a = getD-set-other xs s t v 0 ne in let b = single t h in omega arith)
-      (cases-eq t s)
-
-  pub single-more : getD xs s 0 ≡ 0 → Single n xs → Single n (one-more xs s)
-  single-more none single = single-set (getD xs s 0 + 1) (omega arith) single
-
-  pub single-less : Single n xs → Single n (one-less xs s)
-  single-less single = single-set (getD xs s 0 - 1) (let b = single s l in omega arith) single
-
   pub clear-set : (v : ℕ) → Clear n xs → Clear n (set xs s v)
   clear-set v clear t h = getD-set-other xs s t v 0 (λ e. omega arith) ∙ clear t h
 

@@ -4,3 +4,4 @@ pub mod Stands
 pub mod Outcome
 pub mod Restock
 pub mod Hand
+pub mod Steps

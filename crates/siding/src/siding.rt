@@ -54,4 +54,5 @@ mod hand;
 mod make;
 mod page;
 mod readings;
+mod steps;
 mod writing;

@@ -15,5 +15,5 @@ returns-in-Break-letter c =
 pub returns : need.returns
 returns c =
     let line = c .args .line .now in
-    let meant = c .read-call .ensures ∙ sym (ap lineOf (c .in-Continue-letter .ensures tt .cases .0)) in
-    record { meant = meant; form = line-says line (c .read-call .result) meant }
+    let meant = c .read-act .ensures ∙ sym (ap lineOf (c .in-Continue-letter .ensures tt .cases .0)) in
+    record { meant = meant; form = line-says line (c .read-act .result) meant }
