@@ -1,4 +1,6 @@
 // Reads a day's input, and writes its answer.
+#![tactic(auto)]
+
 use std::io;
 use std::io::{Read, Write};
 

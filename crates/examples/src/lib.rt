@@ -1,4 +1,6 @@
 // Examples of sidings and of bad input, tried on the proved crates. What is expected comes from the rules in docs/.
+#![tactic(auto)]
+
 #[cfg(test)]
 mod days;
 #[cfg(test)]

@@ -1,4 +1,6 @@
 // Lists of moves and of sums in a caller's slice: the plan, the bill, and the check of a list that somebody brings.
+#![tactic(auto)]
+
 pub mod bill;
 pub mod check;
 mod filling;

@@ -1,5 +1,7 @@
 // Reads a siding's sheet and lines, as the program day does, and writes what the siding says after them, with its quote:
 // in metres where the arguments give lengths, section 0 first, and else in moves.
+#![tactic(auto)]
+
 use daybook::acts::read_acts;
 use daybook::input::{MOST_BYTES, parted};
 use motion::calls::Act;

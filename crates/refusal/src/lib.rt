@@ -1,4 +1,6 @@
 // Why a call is refused: one case for each reason, named for what is wrong.
+#![tactic(auto)]
+
 ghost use Rattle.std.specs.Prelude.{◌≡◌, Some};
 ghost use Rattle.refusal.specs.Number.{number_of, place_of, shown_of};
 

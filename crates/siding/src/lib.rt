@@ -1,4 +1,6 @@
 // A siding: its tree of sections, its wagons and berths, and its page.
+#![tactic(auto)]
+
 pub mod layout;
 mod sheet;
 pub mod siding;

@@ -1,4 +1,6 @@
 // Standings, and the numbers by which a directory names them.
+#![tactic(auto)]
+
 mod choices;
 pub mod number;
 mod size;

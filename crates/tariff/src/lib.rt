@@ -1,4 +1,6 @@
 // Tariffs: what the moves of a list are charged.
+#![tactic(auto)]
+
 pub mod amount;
 pub mod metres;
 pub mod move_count;
