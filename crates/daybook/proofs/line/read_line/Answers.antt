@@ -7,10 +7,10 @@ use Rattle.daybook.proofs.line.read_line.Goals as goal
 pub returns-in-err-letter : goal.returns-in-err-letter
 returns-in-err-letter c =
     let line = c.args.line.now in
-    let none = c.from-residual.ensures in
+    let none = c.from_residual.ensures in
     let empty = nil_from_length line c.in-err-letter.ensures.cases in
-    let meant : c.from-residual.result ≡ line_of line = none ∙ sym (ap line_of empty) in
-    record { meant = meant; form = line_says line c.from-residual.result meant }
+    let meant : c.from_residual.result ≡ line_of line = none ∙ sym (ap line_of empty) in
+    record { meant = meant; form = line_says line c.from_residual.result meant }
 
 pub returns : goal.returns
 returns c =

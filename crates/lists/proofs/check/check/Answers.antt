@@ -15,7 +15,7 @@ returns-in-err-wagons c =
     let lay = c.layout-layout.ensures in
     let ms = held c.args.list.now in
     let equal : EqualNumbers (state_of x) = omega (arith, c.wagon-count.ensures, c.berth-count.ensures) in
-    let p = err_from_is_err_and c.from-residual.result c.from-residual.ensures.1 in
+    let p = err_from_is_err_and c.from_residual.result c.from_residual.ensures.1 in
     let e = c.in-err-wagons.field-0.0 in
     let so : Checked (state_of x) ms (Err e) = is_stopped (state_of x) _ _ _ _ _ ms equal lay.sections lay.inner lay.wagons lay.berths c.entries-moves.ensures e c.in-err-wagons.ensures in
     rw (p.1, p.2) (record { checked = so; no_other = λ q h. one_answer (state_of x) ms q (Err e) h so; check-is-exact = exact (state_of x) ms (Err e) so })

@@ -11,7 +11,7 @@ loop-index-init c = (omega arith, Leads.stays)
 
 pub returns-in-err-may-move : goal.returns-in-err-may-move
 returns-in-err-may-move c =
-    let p = err_from_is_err_and c.from-residual.result c.from-residual.ensures.1 in
+    let p = err_from_is_err_and c.from_residual.result c.from_residual.ensures.1 in
     rw (p.1, p.2)
     (stopped_at c.args.sections c.args.inner.now c.args.start.now c.args.moves.now
     c.loop-index.index _ c.loop-index.wagons _ c.loop-index-test.true c.loop-index.invariant.1 c.in-err-may-move.ensures)

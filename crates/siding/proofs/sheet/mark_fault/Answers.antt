@@ -8,8 +8,8 @@ use Rattle.siding.proofs.sheet.mark_fault.Goals as goal
 pub loop-s-init : goal.loop-s-init
 loop-s-init c = lowest_none (mark_at_fault c.args.sheet.now)
 
-pub returns-then-mark-gt-LARGEST-MARK : goal.returns-then-mark-gt-LARGEST-MARK
-returns-then-mark-gt-LARGEST-MARK c =
+pub returns-then-mark-gt-LARGEST_MARK : goal.returns-then-mark-gt-LARGEST_MARK
+returns-then-mark-gt-LARGEST_MARK c =
     let s = c.loop-s.s in
     let sheet = c.args.sheet.now in
     let at = mark_at sheet c.args.n s c.requires in

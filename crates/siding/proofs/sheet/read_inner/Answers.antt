@@ -12,5 +12,5 @@ loop-s-preserved c =
     let s = c.loop-s.s in
     let inner = c.loop-s.inner in (
       simp length-set c.loop-s.invariant.0,
-      ap (set inner s) c.word-at.ensures ∙ slots_more (inner_of c.args.sheet.now) inner s (omega (arith, c.requires.most)) c.loop-s.invariant.1,
+      ap (set inner s) c.word_at.ensures ∙ slots_more (inner_of c.args.sheet.now) inner s (omega (arith, c.requires.most)) c.loop-s.invariant.1,
     )

@@ -5,8 +5,8 @@ use Rattle.siding.proofs.tally.count_all.Goals as goal
 pub loop-s-init : goal.loop-s-init
 loop-s-init c = (sym (sum_none _), omega arith)
 
-pub overflow-add-sum : goal.overflow-add-sum
-overflow-add-sum c = omega (arith, c.requires.single c.loop-s.s (omega arith))
+pub overflow_add-sum : goal.overflow_add-sum
+overflow_add-sum c = omega (arith, c.requires.single c.loop-s.s (omega arith))
 
 pub loop-s-preserved : goal.loop-s-preserved
 loop-s-preserved c =

@@ -7,7 +7,7 @@ use Rattle.siding.proofs.tally.demands.Goals as goal
 
 pub loop-s-init : goal.loop-s-init
 loop-s-init c =
-    let own = c.own-demands-demand.ensures in (
+    let own = c.own_demands-demand.ensures in (
       own.long,
       λ u l.
           let b = gathered_none c.args.n c.args.inner.now c.args.berths.now u in
@@ -18,11 +18,11 @@ loop-s-init c =
     )
 
 -- the section that is added is at least 1, and lower than all so far
-low : (c : goal.After-demand-in-loop-s·1) → get_or c.args.inner.now (c.loop-s.s - 1) 0 < c.loop-s.s - 1
+low : (c : goal.After-demand-in-loop-s-1) → get_or c.args.inner.now (c.loop-s.s - 1) 0 < c.loop-s.s - 1
 low c = c.requires.tree.lower (c.loop-s.s - 1) (omega arith) (omega arith)
 
-pub overflow-add-demand : goal.overflow-add-demand
-overflow-add-demand c =
+pub overflow_add-demand : goal.overflow_add-demand
+overflow_add-demand c =
     let k : ℕ = c.loop-s.s in
     let inner = c.args.inner.now in
     let p = low c in

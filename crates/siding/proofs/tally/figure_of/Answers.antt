@@ -16,14 +16,14 @@ added : (c : goal.After-from-sum) →
 added c =
     let s : ℕ = c.loop-s.s in
     let small = demands_within c.args.n c.args.inner.now c.args.wagons.now c.args.berths.now c.requires.most c.requires.one_wagon c.requires.one_berth s in
-    let e = c.from-sum.ensures ∙ size_of (get_or c.args.demand.now s (pos 0)) _ _ c.unsigned-abs.ensures.value (c.requires.are s c.loop-s-test.true) small in
+    let e = c.from-sum.ensures ∙ size_of (get_or c.args.demand.now s (pos 0)) _ _ c.unsigned_abs.ensures.value (c.requires.are s c.loop-s-test.true) small in
     (e, omega arith)
 
 pub loop-s-init : goal.loop-s-init
 loop-s-init c = (sym (sum_none _), omega arith)
 
-pub overflow-add-sum : goal.overflow-add-sum
-overflow-add-sum c = omega (arith, (added c).1)
+pub overflow_add-sum : goal.overflow_add-sum
+overflow_add-sum c = omega (arith, (added c).1)
 
 pub loop-s-preserved : goal.loop-s-preserved
 loop-s-preserved c =

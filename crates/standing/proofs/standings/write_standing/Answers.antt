@@ -6,7 +6,7 @@ use Rattle.standing.proofs.standings.write_standing.Goals as goal
 
 pub returns-in-err-test-writing : goal.returns-in-err-test-writing
 returns-in-err-test-writing c =
-    let q = err_from_is_err_and c.from-residual.result c.from-residual.ensures.1 in
+    let q = err_from_is_err_and c.from_residual.result c.from_residual.ensures.1 in
     let a = c.in-err-test-writing.ensures in
     let e = q.1 ∙ ap Err q.2 in
     record { answer = e ∙ a; kept = rw e refl; numbers-round-trip = rw e (refused _ _ _ _ _ _ a) }

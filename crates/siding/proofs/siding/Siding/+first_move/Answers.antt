@@ -6,19 +6,19 @@ use Rattle.siding.proofs.Held.{held_tree}
 use Rattle.siding.proofs.Firsts.{onward_first, ready_unless_open}
 use Rattle.siding.proofs.siding.Siding.+first_move.Goals as goal
 
-pub first-move-requires : goal.first-move-requires
-first-move-requires t c =
+pub first_move-requires : goal.first_move-requires
+first_move-requires t c =
     let x = c.args.self.now in
     let low = c.in-Some.ensures in
     let up = branch_up x.sections x.inner (held_tree x) low.branch in
-    (search rules, (low.branch.within, asks_onward x.sections x.inner x.wagons x.berths (held_tree x) x.one_berth c.args.way c.in-Some.v low.branch.within (ready_unless_open _ _ _ c.is-open.result c.is-open.ensures c.if-is-open.false) low.asks))
+    (search rules, (low.branch.within, asks_onward x.sections x.inner x.wagons x.berths (held_tree x) x.one_berth c.args.way c.in-Some.v low.branch.within (ready_unless_open _ _ _ c.is_open.result c.is_open.ensures c.if-is_open.false) low.asks))
 
-pub returns-then-is-open : goal.returns-then-is-open
-returns-then-is-open t c =
+pub returns-then-is_open : goal.returns-then-is_open
+returns-then-is_open t c =
     let x = c.args.self.now in
-    subst (FirstMove c.args.way x.sections x.inner x.wagons x.berths c.args.u) (sym c.move-over.ensures)
-    (FirstMove.straight c.in-Some.ensures (c.is-open.ensures.0 c.if-is-open.true))
+    subst (FirstMove c.args.way x.sections x.inner x.wagons x.berths c.args.u) (sym c.move_over.ensures)
+    (FirstMove.straight c.in-Some.ensures (c.is_open.ensures.0 c.if-is_open.true))
 
-pub returns-else-is-open : goal.returns-else-is-open
-returns-else-is-open t c =
-    onward_first c.args.self.now c.args.way c.args.u c.in-Some.v c.first_move.result c.in-Some.ensures (ready_unless_open _ _ _ c.is-open.result c.is-open.ensures c.if-is-open.false) c.first_move.ensures
+pub returns-else-is_open : goal.returns-else-is_open
+returns-else-is_open t c =
+    onward_first c.args.self.now c.args.way c.args.u c.in-Some.v c.first_move.result c.in-Some.ensures (ready_unless_open _ _ _ c.is_open.result c.is_open.ensures c.if-is_open.false) c.first_move.ensures

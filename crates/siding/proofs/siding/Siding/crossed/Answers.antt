@@ -3,8 +3,8 @@ use Rattle.std.proofs.lemmas.Int.{ints}
 use Rattle.siding.proofs.Held.{held_demand, held_figure, held_part}
 use Rattle.siding.proofs.siding.Siding.crossed.Goals as goal
 
-pub overflow-add-demand : goal.overflow-add-demand
-overflow-add-demand c =
+pub overflow_add-demand : goal.overflow_add-demand
+overflow_add-demand c =
     let d = held_demand c.args.self.now c.args.section c.requires.within.1 in
     let b = c.requires.one in
     omega (arith, ints)

@@ -14,36 +14,36 @@ clear_of n f bytes xs clean e s l = ap (λ ys. get_or ys s 0) e ∙ slots_past n
 
 pub fresh-next-requires : goal.fresh-next-requires
 fresh-next-requires c =
-    let n = c.in-ok-n.n in
+    let n = c.in_ok-n.n in
     let bytes = c.args.sheet.now in
-    let clean : Faultless bytes n = c.in-ok-n.ensures in
-    let i = c.read-inner.ensures in
-    let w = c.read-marks.ensures.wagons in
-    let b = c.read-marks.ensures.berths in
+    let clean : Faultless bytes n = c.in_ok-n.ensures in
+    let i = c.read_inner.ensures in
+    let w = c.read_marks.ensures.wagons in
+    let b = c.read_marks.ensures.berths in
     record {
       some = clean.sized.some;
       most = clean.sized.most;
       tree = rw i (described_tree bytes n clean);
-      one_wagon = let h : Single n c.read-marks.result.0 = rw w (described_wagons bytes n clean) in h;
-      one_berth = let h : Single n c.read-marks.result.1 = rw b (described_berths bytes n clean) in h;
+      one_wagon = let h : Single n c.read_marks.result.0 = rw w (described_wagons bytes n clean) in h;
+      one_berth = let h : Single n c.read_marks.result.1 = rw b (described_berths bytes n clean) in h;
       clear = (clear_of n _ bytes _ clean i, (clear_of n _ bytes _ clean w, clear_of n _ bytes _ clean b));
     }
 
-pub returns-then-next-word-at : goal.returns-then-next-word-at
-returns-then-next-word-at c = record {
+pub returns-then-next-word_at : goal.returns-then-next-word_at
+returns-then-next-word_at c = record {
   drawn = (
-    not_drawn_up c.args.sheet.now c.in-ok-n.n c.in-ok-n.ensures _ _ _ c.read-inner.ensures c.read-marks.ensures.wagons c.read-marks.ensures.berths
-        c.fresh-next.result c.fresh-next.ensures (λ e. c.if-next-word-at.true (e ∙ sym c.word-at.ensures)),
+    not_drawn_up c.args.sheet.now c.in_ok-n.n c.in_ok-n.ensures _ _ _ c.read_inner.ensures c.read_marks.ensures.wagons c.read_marks.ensures.berths
+        c.fresh-next.result c.fresh-next.ensures (λ e. c.if-next-word_at.true (e ∙ sym c.word_at.ensures)),
     refl,
   );
-  sheet-round-trip = tt;
+  sheet_round_trip = tt;
 }
 
 pub returns : goal.returns
 returns c =
-    let done = drawn_up c.args.sheet.now c.in-ok-n.n c.in-ok-n.ensures _ _ _ c.read-inner.ensures c.read-marks.ensures.wagons c.read-marks.ensures.berths
-    c.fresh-next.result c.fresh-next.ensures (c.if-next-word-at.false ∙ c.word-at.ensures) in
+    let done = drawn_up c.args.sheet.now c.in_ok-n.n c.in_ok-n.ensures _ _ _ c.read_inner.ensures c.read_marks.ensures.wagons c.read_marks.ensures.berths
+    c.fresh-next.result c.fresh-next.ensures (c.if-next-word_at.false ∙ c.word_at.ensures) in
     record {
       drawn = done;
-      sheet-round-trip = drawn_written c.args.sheet.now (λ k. (c.type-inv.sheet k).fits) _ done;
+      sheet_round_trip = drawn_written c.args.sheet.now (λ k. (c.type_inv.sheet k).fits) _ done;
     }

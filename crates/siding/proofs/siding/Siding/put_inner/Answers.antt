@@ -14,7 +14,7 @@ loop-s-preserved c =
     let f : ℕ → ℕ = λ t. get_or c.args.self.now.inner t 0 in
     let old = c.args.buffer.now in
     let long : length (pairs f 0 s) ≡ 2 * s = length_pairs f 0 s in
-    c.put-word.ensures
+    c.put_word.ensures
     ∙ ap (λ b. overwritten b (4 + 2 * s) (two_bytes (f s))) c.loop-s.invariant
     ∙ overwritten_after old 4 (pairs f 0 s) (two_bytes (f s)) (4 + 2 * s) (omega arith) (omega (arith, c.requires))
     ∙ ap (overwritten old 4) (pairs_more f s)

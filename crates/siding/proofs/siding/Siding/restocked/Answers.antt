@@ -18,8 +18,8 @@ shift-figure-requires c =
       sums = held_sizes x;
     }
 
-pub invariant-of-next : goal.invariant-of-next
-invariant-of-next c =
+pub invariant_of-next : goal.invariant_of-next
+invariant_of-next c =
     let x = c.args.self.now in
     let may = c.requires in
     let shifted = c.shift-figure.ensures in
@@ -31,58 +31,25 @@ invariant-of-next c =
     ∙ ap (λ z. get_or x.demand s (pos 0) +ℤ cond (is_below x.inner s c.args.at) z (pos 0)) raw
     ∙ ap (λ z. z +ℤ cond (is_below x.inner s c.args.at) c.args.by (pos 0)) (x.demands s l)
     ∙ sym (may.demands s l) in
-    let figure = shifted.figure ∙ sizes_figure _ _ _ _ _ are in (
-      (x.long.0, may.long_wagons, may.long_berths),
-      (
-        (x.long_too.0, x.long_too.1, shifted.long),
-        (
-          x.some,
-          (
-            x.most,
-            (
-              x.neck,
-              (
-                x.lower,
-                (
-                  may.one_wagon,
-                  (
-                    may.one_berth,
-                    (
-                      (x.clear.0, may.clear_wagons, may.clear_berths),
-                      (
-                        (λ s l. shifted.past s l ∙ x.clear_demand s l),
-                        (
-                          x.first_lowest,
-                          (
-                            x.first_branch,
-                            (
-                              x.next_lowest,
-                              (
-                                x.next_branch,
-                                (
-                                  (may.counted_wagons, may.counted_berths),
-                                  (
-                                    are,
-                                    (
-                                      figure,
-                                      (
-                                        omega arith,
-                                        (omega arith, tt),
-                                      ),
-                                    ),
-                                  ),
-                                ),
-                              ),
-                            ),
-                          ),
-                        ),
-                      ),
-                    ),
-                  ),
-                ),
-              ),
-            ),
-          ),
-        ),
-      ),
-    )
+    let figure = shifted.figure ∙ sizes_figure _ _ _ _ _ are in
+    record {
+      long = (x.long.0, may.long_wagons, may.long_berths);
+      long_too = (x.long_too.0, x.long_too.1, shifted.long);
+      some = x.some;
+      most = x.most;
+      neck = x.neck;
+      lower = x.lower;
+      one_wagon = may.one_wagon;
+      one_berth = may.one_berth;
+      clear = (x.clear.0, may.clear_wagons, may.clear_berths);
+      clear_demand = (λ s l. shifted.past s l ∙ x.clear_demand s l);
+      first_lowest = x.first_lowest;
+      first_branch = x.first_branch;
+      next_lowest = x.next_lowest;
+      next_branch = x.next_branch;
+      counts = (may.counted_wagons, may.counted_berths);
+      demands = are;
+      sums = figure;
+      few = omega arith;
+      page = omega arith;
+    }

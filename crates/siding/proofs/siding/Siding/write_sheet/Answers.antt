@@ -9,9 +9,9 @@ pub returns : goal.returns
 returns c =
     let x = c.args.self.now in
     let old = c.args.buffer.now in
-    let second = c.put-word-2.ensures ∙ ap (λ v. overwritten c.put-word.new.buffer 2 (two_bytes v)) x.counts.0 in
-    let whole = written_out (state_of x) old _ _ _ _ (omega arith) c.put-word.ensures second c.put-inner.ensures c.put-marks.ensures in
+    let second = c.put_word-2.ensures ∙ ap (λ v. overwritten c.put_word.new.buffer 2 (two_bytes v)) x.counts.0 in
+    let whole = written_out (state_of x) old _ _ _ _ (omega arith) c.put_word.ensures second c.put_inner.ensures c.put_marks.ensures in
     record {
       written = (sym (sheet_length (state_of x)), whole);
-      sheet-round-trip = read_back x old _ _ refl whole;
+      sheet_round_trip = read_back x old _ _ refl whole;
     }
