@@ -1,5 +1,5 @@
 -- The tariff that takes the steepest grade.
-use Rattle.std.specs.Prelude.{ℕ, max, List, slice_index}
+use Rattle.std.specs.Prelude.{ℕ, max, List, slice_index, nat_le}
 use Rattle.tariff.specs.Rule.{Rule}
 use Rattle.tariff.specs.Amounts.{inside}
 use Rattle.tariff.specs.Tables.{by_way}
@@ -10,5 +10,5 @@ grade_rule inward outward =
       none = 0;
       cost = λ s w. inside s (slice_index (by_way inward outward w) s);
       plus = max;
-      within = leb;
+      within = nat_le;
     }

@@ -6,7 +6,7 @@ use Rattle.daybook.proofs.Days.{more_first, more_none}
 use Rattle.daybook.proofs.Lines.{first_some, cut_first}
 use Rattle.daybook.proofs.day.answer_lines.Goals as goal
 
-some_left : (c : goal.In-ok-answer-line) → 0 < length c.loop-rest.rest.now
+some_left : (c : goal.In_ok-answer_line) → 0 < length c.loop-rest.rest.now
 some_left c =
     let ne = eqb-false (length c.loop-rest.rest.now) 0 (sym c.loop-rest-test.ensures) in
     omega arith
@@ -20,8 +20,8 @@ pub loop-rest-preserved : goal.loop-rest-preserved
 loop-rest-preserved c = λ whole rest.
     let s = c.loop-rest.rest.now in
     let first = cut_first s (some_left c) in
-    let cuts : cut s ≡ c.split-at.result.0.now ∷ cut c.split-at.result.1.now = cc in
-    c.loop-rest.invariant whole (more_first _ _ (cut s) _ _ _ _ whole cuts c.in-ok-answer-line.ensures rest)
+    let cuts : cut s ≡ c.split_at.result.0.now ∷ cut c.split_at.result.1.now = cc in
+    c.loop-rest.invariant whole (more_first _ _ (cut s) _ _ _ _ whole cuts c.in_ok-answer_line.ensures rest)
 
 pub returns : goal.returns
 returns c =

@@ -9,8 +9,8 @@ returns-then-input-lt2 c =
     let n = sheet_size (sections_of s) in
     let short : length s ≤ n = omega arith in
     record {
-      sheet = c.split-at.ensures.front ∙ take_past s n short;
-      rest = c.split-at.ensures.back ∙ drop_past s n short;
+      sheet = c.split_at.ensures.front ∙ take_past s n short;
+      rest = c.split_at.ensures.back ∙ drop_past s n short;
     }
 
 pub returns : goal.returns
@@ -19,6 +19,6 @@ returns c =
     let n = sheet_size (sections_of s) in
     let place : c.min.result ≡ min (length s) n = cc in
     record {
-      sheet = c.split-at-2.ensures.front ∙ (ap (λ k. take k s) place ∙ take_within s n);
-      rest = c.split-at-2.ensures.back ∙ (ap (λ k. drop k s) place ∙ drop_within s n);
+      sheet = c.split_at-2.ensures.front ∙ (ap (λ k. take k s) place ∙ take_within s n);
+      rest = c.split_at-2.ensures.back ∙ (ap (λ k. drop k s) place ∙ drop_within s n);
     }

@@ -6,7 +6,7 @@ pub loop-each-init : goal.loop-each-init
 loop-each-init c = After.start
 
 pub loop-each-preserved : goal.loop-each-preserved
-loop-each-preserved c = after_more c.args.acts.now c.loop-each.Each-index _ c.loop-each-test.true c.loop-each.invariant c.act-on.ensures
+loop-each-preserved c = after_more c.args.acts.now c.loop-each.each-index _ c.loop-each-test.true c.loop-each.invariant c.act_on.ensures
 
 pub returns : goal.returns
 returns c = after_all _ _ c.loop-each-test.false c.loop-each.invariant

@@ -6,14 +6,14 @@ use Rattle.planning.proofs.replay.replay.Goals as goal
 
 pub returns : goal.returns
 returns c =
-    let accepted = c.in-ok-draw-up.ensures.drawn in
-    let start = c.draw-up.new.self in
-    let end = c.act-all.new.siding in
+    let accepted = c.in_ok-draw_up.ensures.drawn in
+    let start = c.draw_up.new.self in
+    let end = c.act_all.new.siding in
     let f = c.figure.ensures in
     let h = c.head.ensures in
     let m = c.moves.ensures in
     let a = c.away.ensures in
-    let promise : Promise c.args.acts.now (state_of start) (state_of end) = promised c.args.acts.now start end c.act-all.ensures in
+    let promise : Promise c.args.acts.now (state_of start) (state_of end) = promised c.args.acts.now start end c.act_all.ensures in
     record {
       run = rw accepted promise;
       answer = rw accepted (cc);

@@ -4,19 +4,19 @@ use Rattle.standing.proofs.number.number.Goals as goal
 use Rattle.standing.proofs.number.number.Goals.{in-0, in-1}
 
 pub loop-section-init : goal.loop-section-init
-loop-section-init c = counted_none c.args.standing.now (sym c.if-is-out-of-range.ensures.answer)
+loop-section-init c = counted_none c.args.standing.now (sym c.if-is_out_of_range.ensures.answer)
 
-pub overflow-add-wagons : goal.overflow-add-wagons
-overflow-add-wagons c = omega (arith, c.loop-section.invariant.few)
+pub overflow_add-wagons : goal.overflow_add-wagons
+overflow_add-wagons c = omega (arith, c.loop-section.invariant.few)
 
 pub choices-number-requires : goal.choices-number-requires
 choices-number-requires c = place_fits _ _ _ _ c.loop-section.invariant c.loop-section-test.true
 
-pub overflow-add-number : goal.overflow-add-number
-overflow-add-number c = record { fits = omega (arith, number_fits _ _ _ _ c.loop-section.invariant c.loop-section-test.true, c.choices-number.ensures) }
+pub overflow_add-number : goal.overflow_add-number
+overflow_add-number c = record { fits = omega (arith, number_fits _ _ _ _ c.loop-section.invariant c.loop-section-test.true, c.choices-number.ensures) }
 
-pub returns-in-default : goal.returns-in-default
-returns-in-default c = counted_fault _ _ _ _ c.loop-section.invariant c.loop-section-test.true (omega arith)
+pub returns-in_default : goal.returns-in_default
+returns-in_default c = counted_fault _ _ _ _ c.loop-section.invariant c.loop-section-test.true (omega arith)
 
 pub loop-section-preserved : goal.loop-section-preserved
 loop-section-preserved c =

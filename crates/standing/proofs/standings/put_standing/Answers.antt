@@ -6,24 +6,24 @@ use Rattle.standing.proofs.standings.put_standing.Goals as goal
 pub loop-section-init : goal.loop-section-init
 loop-section-init c = written_none _ _ _ _ c.requires.room c.requires.fits
 
-pub choices-with-it-empty-requires : goal.choices-with-it-empty-requires
-choices-with-it-empty-requires c = omega (arith, at_most c.args.n c.requires.size)
+pub choices-with_it_empty-requires : goal.choices-with_it_empty-requires
+choices-with_it_empty-requires c = omega (arith, at_most c.args.n c.requires.size)
 
-pub overflow-sub-wagons : goal.overflow-sub-wagons
-overflow-sub-wagons c =
+pub overflow_sub-wagons : goal.overflow_sub-wagons
+overflow_sub-wagons c =
     wagon_placed _ _ _ _ _ c.loop-section.section _ _ c.loop-section-test.true c.loop-section.auto.section c.loop-section.invariant
-    (omega (arith, c.choices-with-it-empty.ensures))
+    (omega (arith, c.choices-with_it_empty.ensures))
 
-pub loop-section-preserved-then-left-with-it-empty : goal.loop-section-preserved-then-left-with-it-empty
-loop-section-preserved-then-left-with-it-empty c =
+pub loop-section-preserved-then-left-with_it_empty : goal.loop-section-preserved-then-left-with_it_empty
+loop-section-preserved-then-left-with_it_empty c =
     written_empty _ _ _ _ _ c.loop-section.section _ _ c.loop-section-test.true c.loop-section.auto.section c.loop-section.invariant
-    (omega (arith, c.choices-with-it-empty.ensures))
+    (omega (arith, c.choices-with_it_empty.ensures))
 
 pub loop-section-preserved : goal.loop-section-preserved
 loop-section-preserved c =
-    rw c.choices-with-it-empty.ensures
+    rw c.choices-with_it_empty.ensures
     (written_wagon _ _ _ _ _ c.loop-section.section _ _ c.loop-section-test.true c.loop-section.auto.section c.loop-section.invariant
-    (omega (arith, c.choices-with-it-empty.ensures)))
+    (omega (arith, c.choices-with_it_empty.ensures)))
 
 pub returns : goal.returns
 returns c =

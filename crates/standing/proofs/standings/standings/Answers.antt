@@ -6,5 +6,5 @@ pub returns : goal.returns
 returns c =
     record {
       answer = search rules;
-      numbers-are-dense = rw c.choices.ensures (dense c.args.n c.args.k (sym c.if-is-out-of-range.ensures.answer));
+      numbers_are_dense = rw c.choices.ensures (dense c.args.n c.args.k (sym c.if-is_out_of_range.ensures.answer));
     }

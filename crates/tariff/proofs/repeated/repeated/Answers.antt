@@ -12,8 +12,8 @@ loop-left-init g c =
 pub loop-left-preserved : goal.loop-left-preserved
 loop-left-preserved g c =
     times_next (g.F.Tariff.rule c.args.tariff.now) (g.met.F.Tariff.laws c.args.tariff.now)
-    c.loop-left.sum c.loop-left.doubled c.join-if-odd-sum.result c.join-doubled.result _ c.loop-left.left
-    c.join-if-odd-sum.ensures c.join-doubled.ensures c.loop-left.invariant
+    c.loop-left.sum c.loop-left.doubled c.join_if_odd-sum.result c.join-doubled.result _ c.loop-left.left
+    c.join_if_odd-sum.ensures c.join-doubled.ensures c.loop-left.invariant
 
 pub returns : goal.returns
 returns g c =

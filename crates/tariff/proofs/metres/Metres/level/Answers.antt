@@ -2,5 +2,5 @@ use Rattle.std.proofs.Common.{[], arith}
 use Rattle.tariff.proofs.Filled.{short_table}
 use Rattle.tariff.proofs.metres.Metres.level.Goals as goal
 
-pub invariant-of-result : goal.invariant-of-result
-invariant-of-result c = (short_table [] _ (λ s l. absurd (omega arith)) c.length-table.ensures, tt)
+pub invariant_of-result : goal.invariant_of-result
+invariant_of-result c = record { short = short_table [] _ (λ s l. absurd (omega arith)) c.length_table.ensures }
