@@ -26,7 +26,7 @@ pub fn replay(siding: &mut Siding, sheet: &[u8], acts: &[Act]) -> Result<Account
 }
 
 // Does the acts one after another.
-fn act_all(siding: &mut Siding, acts: &[Act])
+pub fn act_all(siding: &mut Siding, acts: &[Act])
     ensures { After acts.now (state_of siding.old) (state_of siding.new) }
 {
     for each in acts {

@@ -6,6 +6,7 @@ ghost use Rattle.quoting.specs.Promise.{Run, Told, Answered};
 use crate::account::Account;
 use crate::quote::quote;
 use motion::calls::Act;
+use planning::replay::act_all;
 use refusal::Refusal;
 use siding::Siding;
 use tariff::Tariff;
@@ -20,7 +21,8 @@ pub fn replay<F: Tariff>(
     ensures run { Run (drawn sheet.now) acts.now siding.old siding.new }
     ensures answer { Answered (F.Tariff.rule tariff.now) (drawn sheet.now) (state_of siding.new) result }
 {
-    planning::replay::replay(siding, sheet, acts)?;
+    siding.draw_up(sheet)?;
+    act_all(siding, acts);
     Ok(account(siding, tariff))
 }
 

@@ -12,11 +12,11 @@ pub loop-s-preserved : goal.loop-s-preserved
 loop-s-preserved g c =
     let x = c.args.siding.now in
     let s = c.loop-s.s in
-    let d : ℤ = c.in-ok-demand.demand in
+    let d : ℤ = c.in_ok-demand.demand in
     let fits : SFits w16 d = search rules in
     let raw : to_z w16 (of_z w16 d) ≡ d = to_z-of_z w16 d fits in
     let value : d ≡ demand_of x.sections x.inner x.wagons x.berths s =
-    read_is x s (demand_of x.sections x.inner x.wagons x.berths s) d (omega (arith, c.loop-s-test.true, c.sections-s-end.ensures)) c.in-ok-demand.ensures in (
+    read_is x s (demand_of x.sections x.inner x.wagons x.berths s) d (omega (arith, c.loop-s-test.true, c.sections-s-end.ensures)) c.in_ok-demand.ensures in (
       omega (arith, c.loop-s.invariant.0),
       quote_goes_on (g.F.Tariff.rule c.args.tariff.now) x c.loop-s.sum c.share.result c.join-sum.result s
           c.loop-s.invariant.0 c.loop-s.invariant.1 (c.share.ensures (under x.sections x.inner x.berths s) (under x.sections x.inner x.wagons s) (raw ∙ value)) c.join-sum.ensures,
@@ -25,7 +25,7 @@ loop-s-preserved g c =
 pub returns : goal.returns
 returns g c =
     quote_ends (g.F.Tariff.rule c.args.tariff.now) c.args.siding.now (g.met.F.Tariff.laws c.args.tariff.now)
-    (sym c.wagon-count.ensures ∙ c.if-wagon-count-berth-count.false ∙ c.berth-count.ensures)
+    (sym c.wagon_count.ensures ∙ c.if-wagon_count-berth_count.false ∙ c.berth_count.ensures)
     c.loop-s.sum c.loop-s.s
     (omega (arith, c.loop-s-test.false, c.sections-s-end.ensures, c.args.siding.now.some, c.loop-s.auto.s-end (omega (arith, c.sections-s-end.ensures, c.args.siding.now.some))))
     c.loop-s.invariant.1
