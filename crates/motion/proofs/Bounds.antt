@@ -1,7 +1,7 @@
 -- How large a demand and a figure can be.
-use Rattle.std.proofs.Common.{◌≡◌, ℕ, zero, suc, ◌+◌, ◌-◌, ◌*◌, ◌<◌, ◌≤◌, Bool, true, false, cond, List, get_or, ℤ, pos, ◌-ℤ◌, nat_abs, sym, refl, ap, ◌∙◌, mul-le-mul_right, arith}
+use Rattle.std.proofs.Common.{ℕ, ◌+◌, ◌-◌, ◌*◌, ◌≤◌, true, false, cond, List, get_or, nat_abs, arith}
 use Rattle.std.proofs.lemmas.Int.{ints}
-use Rattle.motion.specs.Tree.{is_below, sum_to, under, total}
+use Rattle.motion.specs.Tree.{is_below, under, total}
 use Rattle.motion.specs.Demand.{demand_of, figure_of, Single}
 use Rattle.motion.proofs.Sums.{sum_below, sum_most}
 

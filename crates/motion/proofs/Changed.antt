@@ -1,14 +1,13 @@
 -- What the sums below the sections are after the entry of one section has changed, and after a wagon has moved.
-use Rattle.std.proofs.Common.{◌≡◌, ℕ, zero, suc, ◌+◌, ◌-◌, ◌<◌, ◌≤◌, Bool, true, false, cond, ◌&&◌, eqb, ltb, ◌≢◌, ◌⊎◌, List, [], ◌∷◌, length, get_or, set, sym, refl, ap, ◌∙◌, ⊎_elim, arith}
+use Rattle.std.proofs.Common.{◌≡◌, ℕ, ◌+◌, ◌-◌, ◌<◌, ◌≤◌, Bool, true, false, cond, ◌&&◌, eqb, List, length, get_or, set, sym, refl, ap, ◌∙◌, ⊎_elim, arith}
 use Rattle.std.proofs.lemmas.List.{get_or-set_same, get_or-set_other, length-set}
 use Rattle.std.proofs.lemmas.Bool.{cases_eq, cond-true, cond-false, eq-eqb, ne_eqb, le-ltb, lt-ltb, and_right}
-use Rattle.std.proofs.lemmas.Bool.Decides.{nat_tests}
 use Rattle.motion.specs.declared.moves.Move.{Move}
-use Rattle.motion.specs.Tree.{Tree, Branch, is_below, sum_to, total, under}
+use Rattle.motion.specs.Tree.{Tree, Branch, is_below, total, under}
 use Rattle.motion.specs.Demand.{Single}
 use Rattle.motion.specs.Moves.{one_less, one_more, moved, Legal, crosses_inward, crosses_outward, one_if}
 use Rattle.motion.proofs.Sums.{sum_one}
-use Rattle.motion.proofs.Underneath.{below_inner, below_high, below_self}
+use Rattle.motion.proofs.Underneath.{below_inner, below_high}
 
 module _ (n : ℕ) (xs : List ℕ) (s : ℕ) (l : s < n) (long : n ≤ length xs) where
   -- at most one stays at most one

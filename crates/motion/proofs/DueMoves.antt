@@ -7,7 +7,6 @@ use Rattle.motion.specs.Demand.{demand_of, figure_of}
 use Rattle.motion.specs.Moves.{moved, Legal}
 use Rattle.motion.specs.Visit.{Before, Unsettled, AllSettled, FirstUnsettled}
 use Rattle.motion.specs.declared.ways.Way.{Way}
-use Rattle.motion.specs.declared.ways.Way.TheVariants.{Outward, Inward}
 use Rattle.motion.specs.Due.{over, LowestAsking, FirstMove, Due}
 use Rattle.motion.specs.Stepping.{Even}
 use Rattle.motion.proofs.Decided.{both}

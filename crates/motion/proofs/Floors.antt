@@ -1,12 +1,12 @@
 -- No filling list is shorter than the figure.
-use Rattle.std.proofs.Common.{◌≡◌, ℕ, zero, suc, ◌+◌, ◌-◌, ◌<◌, ◌≤◌, max, Bool, true, false, cond, ◌≢◌, ◌⊎◌, List, [], ◌∷◌, length, get_or, ℤ, pos, nat_abs, count_by, sym, refl, ap, ◌∙◌, ⊎_elim, arith}
+use Rattle.std.proofs.Common.{◌≡◌, ℕ, zero, suc, ◌+◌, ◌-◌, ◌<◌, ◌≤◌, max, Bool, true, false, cond, ◌≢◌, List, [], ◌∷◌, length, get_or, nat_abs, count_by, sym, refl, ap, ◌∙◌, ⊎_elim, arith}
 use Rattle.std.proofs.lemmas.List.Sums.{sum_by-cons}
 use Rattle.std.proofs.lemmas.Int.{ints}
 use Rattle.std.proofs.lemmas.Bool.{cases_eq, cases_lt}
 use Rattle.motion.specs.declared.moves.Move.{Move}
 use Rattle.motion.specs.Tree.{Tree, is_below, sum_to, under, total}
 use Rattle.motion.specs.Demand.{demand_of, figure_of}
-use Rattle.motion.specs.Moves.{Leads, Filled, Fills, crosses_inward, crosses_outward, one_if}
+use Rattle.motion.specs.Moves.{Filled, Fills, crosses_inward, crosses_outward, one_if}
 use Rattle.motion.proofs.Sums.{sum_same, sum_zero, sum_add, sum_below}
 use Rattle.motion.proofs.Crossings.{crossings_balance, total_led, crosses_other, inward_no, outward_no}
 

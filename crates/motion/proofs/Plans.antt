@@ -6,7 +6,6 @@ use Rattle.motion.specs.Tree.{Branch}
 use Rattle.motion.specs.Demand.{figure_of}
 use Rattle.motion.specs.Moves.{moved}
 use Rattle.motion.specs.declared.ways.Way.{Way}
-use Rattle.motion.specs.declared.ways.Way.TheVariants.{Outward, Inward}
 use Rattle.motion.specs.Due.{Ready, over, LowestAsking}
 use Rattle.motion.specs.Stepping.{Stepping, Shifts, Turns, Next, Task, Balancing, Even}
 use Rattle.motion.proofs.Decided.{both, branch_or_not}

@@ -1,21 +1,18 @@
 -- What is promised of every siding, and of every run, holds.
-use Rattle.std.proofs.Common.{◌≡◌, ℕ, zero, suc, ◌+◌, ◌-◌, ◌*◌, ◌<◌, ◌≤◌, ltb, ◌⊎◌, List, [], ◌∷◌, ◌++◌, length, replicate, sym, refl, ap, ◌∙◌, subst, inl, inr, ⊎_elim, arith}
+use Rattle.std.proofs.Common.{◌≡◌, ℕ, zero, suc, ◌+◌, ◌<◌, ◌≤◌, ltb, List, [], ◌∷◌, replicate, sym, refl, ap, ◌∙◌, inl, inr, ⊎_elim, arith}
 use Rattle.std.proofs.lemmas.Bool.{lt-ltb, le-ltb}
 use Rattle.motion.specs.declared.moves.Move.{Move}
 use Rattle.motion.specs.declared.calls.Act.{Act}
 use Rattle.motion.specs.declared.calls.Act.TheVariants.{Call as Called, Step}
 use Rattle.motion.specs.declared.calls.Call.TheVariants.{Hand, Turn}
-use Rattle.motion.specs.Tree.{total}
-use Rattle.motion.specs.Demand.{figure_of}
-use Rattle.motion.specs.Moves.{moved, Legal, Leads, Filled, Fills, one_if}
-use Rattle.motion.specs.Visit.{AllSettled}
+use Rattle.motion.specs.Moves.{Legal, Leads, Filled, one_if}
 use Rattle.motion.specs.Stepping.{Stepping, Even}
-use Rattle.motion.specs.State.{State, figure, page_begun, with_wagons, EqualNumbers, most_moves}
-use Rattle.motion.specs.Calls.{Does, Done, DueIn, SettledIn, Makes, After, Passing, Sound, hand_moved, stepped}
+use Rattle.motion.specs.State.{State, figure, page_begun, EqualNumbers, most_moves}
+use Rattle.motion.specs.Calls.{Does, DueIn, SettledIn, Makes, After, Sound, stepped}
 use Rattle.motion.specs.Promises.{FillsFrom, ShortestFrom, Least, SteppedOut, Exactly, AwayMeansNoShortest}
 use Rattle.motion.proofs.Bounds.{figures_within}
 use Rattle.motion.proofs.Changed.{total_moved}
-use Rattle.motion.proofs.DueMoves.{some_due, none_due, due_is_legal}
+use Rattle.motion.proofs.DueMoves.{some_due, due_is_legal}
 use Rattle.motion.proofs.Floors.{figure_is_a_floor}
 use Rattle.motion.proofs.Pages.{figure_by_one}
 use Rattle.motion.proofs.Runs.{even_from, sound_moved, sound_after, settled_or_not}

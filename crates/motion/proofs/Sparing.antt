@@ -1,12 +1,12 @@
 -- The moves due cross no section oftener, inward or outward, than any filling list does.
-use Rattle.std.proofs.Common.{◌≡◌, ℕ, zero, suc, ◌+◌, ◌-◌, ◌<◌, ◌≤◌, max, cond, ◌≢◌, ◌⊎◌, List, [], ◌∷◌, length, pos, nat_abs, count_by, sym, refl, ap, ◌∙◌, ⊎_elim, arith}
+use Rattle.std.proofs.Common.{◌≡◌, ℕ, ◌+◌, ◌-◌, ◌<◌, ◌≤◌, max, cond, List, nat_abs, count_by, refl, ◌∙◌, ⊎_elim, arith}
 use Rattle.std.proofs.lemmas.List.Sums.{sum_by-cons}
 use Rattle.std.proofs.lemmas.Int.{ints}
 use Rattle.std.proofs.lemmas.Bool.{cases_eq, cases_lt}
 use Rattle.motion.specs.declared.moves.Move.{Move}
-use Rattle.motion.specs.Tree.{Tree, sum_to, under, total}
+use Rattle.motion.specs.Tree.{under}
 use Rattle.motion.specs.Demand.{demand_of, figure_of}
-use Rattle.motion.specs.Moves.{Legal, Leads, Fills, crosses_inward, crosses_outward, one_if}
+use Rattle.motion.specs.Moves.{Leads, Fills, crosses_inward, crosses_outward, one_if}
 use Rattle.motion.specs.Stepping.{Stepping, Even, FillsInFigure}
 use Rattle.motion.proofs.Sums.{sum_below}
 use Rattle.motion.proofs.Crossings.{crossings_balance, total_led, crosses_other, inward_no, outward_no}

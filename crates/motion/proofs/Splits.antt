@@ -1,9 +1,9 @@
 -- The sum below a section is its own entry plus the sums below its branches.
-use Rattle.std.proofs.Common.{◌≡◌, ℕ, zero, suc, ◌+◌, ◌-◌, ◌<◌, ◌≤◌, Bool, true, false, cond, ◌&&◌, eqb, ltb, leb, ◌≢◌, ◌⊎◌, List, get_or, sym, refl, ap, ◌∙◌, ⊎_elim, arith}
-use Rattle.std.proofs.lemmas.Bool.{cases_eq, cases_lt, cases_Bool, cond-true, cond-false, eq-eqb, ne_eqb, eqb-true, lt-ltb, ltb-true, and_parts, le-leb, lt-leb}
+use Rattle.std.proofs.Common.{◌≡◌, ℕ, zero, suc, ◌+◌, ◌<◌, ◌≤◌, Bool, true, false, cond, eqb, ltb, ◌≢◌, List, get_or, sym, refl, ap, ◌∙◌, ⊎_elim, arith}
+use Rattle.std.proofs.lemmas.Bool.{cases_eq, cases_Bool, cond-true, cond-false, eq-eqb, ne_eqb, eqb-true, ltb-true, and_parts}
 use Rattle.std.proofs.lemmas.Bool.Decides.{nat_tests}
-use Rattle.motion.specs.Tree.{Tree, is_below, is_branch, sum_to, under, total}
-use Rattle.motion.proofs.Sums.{sum_same, sum_one, sum_zero, sum_add, sum_swap, sum_pick, sum_below}
+use Rattle.motion.specs.Tree.{Tree, is_below, is_branch, sum_to, under}
+use Rattle.motion.proofs.Sums.{sum_same, sum_one, sum_zero, sum_add, sum_swap, sum_pick}
 use Rattle.motion.proofs.Underneath.{below_self, below_neck, below_high, below_other}
 
 module _ (n : ℕ) (inner : List ℕ) (tree : Tree n inner) where

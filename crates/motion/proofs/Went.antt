@@ -7,7 +7,6 @@ use Rattle.motion.specs.Demand.{figure_of}
 use Rattle.motion.specs.Moves.{moved}
 use Rattle.motion.specs.Visit.{Before, Unsettled, AllSettled}
 use Rattle.motion.specs.declared.ways.Way.{Way}
-use Rattle.motion.specs.declared.ways.Way.TheVariants.{Outward, Inward}
 use Rattle.motion.specs.Due.{FirstMove, Due}
 use Rattle.motion.specs.Stepping.{Stepping, Turns, Next, Task, Balancing, Even}
 use Rattle.motion.proofs.Order.{below_trans, branch_below, branch_up, below_le, below_after, before_not_below, apart, Ahead, ahead}

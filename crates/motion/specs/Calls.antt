@@ -1,5 +1,5 @@
 -- What calls make of a siding.
-use Rattle.std.specs.Prelude.{◌≡◌, ℕ, ◌+◌, ◌<◌, ◌≤◌, ◌⊎◌, List, [], ◌∷◌, ◌++◌, length, nat_lt, slice_index}
+use Rattle.std.specs.Prelude.{◌≡◌, ◌+◌, ◌<◌, ◌≤◌, ◌⊎◌, List, [], ◌∷◌, ◌++◌, length, nat_lt, slice_index}
 use Rattle.motion.specs.Tree.{Tree}
 use Rattle.motion.specs.Demand.{Single}
 use Rattle.motion.specs.Visit.{AllSettled}

@@ -1,7 +1,7 @@
 -- The demand of a section, and the figure of a siding.
 -- `wagons` and `berths` have, for each section, how many wagons it holds and how many are wanted there.
 use Rattle.std.specs.Prelude.{◌≡◌, ℕ, ◌+◌, ◌-◌, ◌<◌, ◌≤◌, true, cond, List, ℤ, pos, ◌-ℤ◌, slice_index, unsigned_abs}
-use Rattle.motion.specs.Tree.{Tree, Below, is_below, is_branch, sum_to, total, under}
+use Rattle.motion.specs.Tree.{Tree, Below, is_below, is_branch, sum_to, under}
 
 -- the number of berths below s less the number of wagons below s
 abbrev pub demand_of : ℕ → List ℕ → List ℕ → List ℕ → ℕ → ℤ

@@ -1,5 +1,5 @@
 -- What moves do to the demands, and why no list of moves that fills the berths is shorter than the figure.
-use Rattle.std.specs.Prelude.{◌≡◌, ℕ, ◌+◌, ◌<◌, ◌≤◌, max, List, length, pos, ◌+ℤ◌, ◌-ℤ◌, count_by, ◌≢◌}
+use Rattle.std.specs.Prelude.{◌≡◌, ℕ, ◌+◌, ◌<◌, ◌≤◌, max, List, length, pos, ◌+ℤ◌, count_by, ◌≢◌}
 use Rattle.motion.specs.declared.moves.Move.{Move}
 use Rattle.motion.specs.Tree.{Tree, under, total}
 use Rattle.motion.specs.Demand.{demand_of, figure_of}

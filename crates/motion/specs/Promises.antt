@@ -1,5 +1,5 @@
 -- What is promised of every siding, and of every run.
-use Rattle.std.specs.Prelude.{◌≡◌, ℕ, ◌+◌, ◌≤◌, List, [], ◌∷◌, ◌++◌, length, replicate}
+use Rattle.std.specs.Prelude.{◌≡◌, ℕ, ◌+◌, ◌≤◌, List, ◌∷◌, ◌++◌, length, replicate}
 use Rattle.motion.specs.declared.moves.Move.{Move}
 use Rattle.motion.specs.declared.calls.Act.{Act}
 use Rattle.motion.specs.declared.calls.Act.TheVariants.{Call as Called, Step}

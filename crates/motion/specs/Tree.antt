@@ -1,7 +1,7 @@
 -- The tree of a siding's sections, and which sections lie below which.
 -- n sections are numbered from 0; section 0 is the neck. A list has an entry for each section, section 0 first:
 -- `inner` the inner neighbour. What stands past the n entries plays no part.
-use Rattle.std.specs.Prelude.{◌≡◌, ℕ, zero, suc, ◌+◌, ◌<◌, ◌≤◌, Bool, true, false, cond, ◌&&◌, List, ◌==◌, nat_lt, slice_index, slice_index_or}
+use Rattle.std.specs.Prelude.{◌≡◌, ℕ, zero, suc, ◌+◌, ◌<◌, Bool, true, cond, ◌&&◌, List, ◌==◌, nat_lt, slice_index, slice_index_or}
 
 -- every section but the neck hangs on an inner neighbour of a lower number; the neck's entry is 0
 pub record Tree (n : ℕ) (inner : List ℕ) : Type 0 where

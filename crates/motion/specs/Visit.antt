@@ -1,5 +1,5 @@
 -- The order in which sections are visited, and the first unsettled section.
-use Rattle.std.specs.Prelude.{◌≡◌, ℕ, ◌<◌, List, ℤ, pos}
+use Rattle.std.specs.Prelude.{◌≡◌, ℕ, ◌<◌, List, pos}
 use Rattle.motion.specs.Tree.{Branch, Below}
 use Rattle.motion.specs.Demand.{demand_of}
 

@@ -1,5 +1,5 @@
 -- What holds of every siding, and so after every run.
-use Rattle.std.proofs.Common.{◌≡◌, ◌+◌, ◌≤◌, List, sym, ap, ◌∙◌, arith}
+use Rattle.std.proofs.Common.{◌+◌, List, sym, ap, ◌∙◌, arith}
 use Rattle.motion.specs.State.{Balances}
 use Rattle.motion.specs.Calls.{After, Sound}
 use Rattle.motion.specs.declared.calls.Act.{Act}

@@ -3,7 +3,7 @@ use Rattle.std.proofs.Common.{◌≡◌, ℕ, suc, ◌+◌, ◌-◌, ◌<◌, �
 use Rattle.std.proofs.lemmas.Bool.{lt-ltb}
 use Rattle.refusal.specs.declared.Refusal.{Refusal}
 use Rattle.refusal.specs.declared.Refusal.TheVariants.{NoSection}
-use Rattle.motion.specs.State.{State, EqualNumbers}
+use Rattle.motion.specs.State.{EqualNumbers}
 use Rattle.motion.specs.Stepping.{Even}
 use Rattle.motion.specs.Tree.{under}
 use Rattle.motion.specs.declared.ways.Way.TheVariants.{Outward, Inward}

@@ -8,8 +8,6 @@ use Rattle.motion.specs.declared.moves.Move.{Move}
 use Rattle.motion.specs.declared.ways.Way.TheVariants.{Outward, Inward}
 use Rattle.tariff.specs.Rule.{Rule}
 use Rattle.tariff.specs.Charges.{charged, times}
-use Rattle.siding.specs.declared.siding.Siding.{Siding}
-use Rattle.siding.specs.Stands.{state_of}
 
 -- the moves that stepping makes until none is due
 abbrev pub MovesDue : State → List Move → Type 0

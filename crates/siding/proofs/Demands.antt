@@ -1,13 +1,13 @@
 -- One turn of the loop that gathers the demands, from the highest section down.
-use Rattle.std.proofs.Common.{◌≡◌, ℕ, ◌+◌, ◌-◌, ◌<◌, ◌≤◌, ◌⊎◌, List, length, get_or, set, ℤ, pos, ◌+ℤ◌, ◌-ℤ◌, nat_abs, sym, refl, ap, ◌∙◌, ⊎_elim, arith}
+use Rattle.std.proofs.Common.{◌≡◌, ℕ, ◌+◌, ◌-◌, ◌<◌, ◌≤◌, List, length, get_or, set, ℤ, pos, ◌+ℤ◌, ◌-ℤ◌, nat_abs, ap, ◌∙◌, ⊎_elim, arith}
 use Rattle.std.proofs.lemmas.List.{get_or-set_same, get_or-set_other}
 use Rattle.std.proofs.lemmas.Int.{ints}
 use Rattle.std.proofs.lemmas.Bool.{cases_eq}
-use Rattle.motion.specs.Tree.{Tree, under, total}
-use Rattle.motion.specs.Demand.{demand_of, Single}
+use Rattle.motion.specs.Tree.{Tree}
+use Rattle.motion.specs.Demand.{Single}
 use Rattle.motion.proofs.Bounds.{under_most, total_most}
 use Rattle.motion.proofs.Gathered.{gathered, gathered_all, gathered_inner, gathered_other, gathered_most}
-use Rattle.siding.specs.Kept.{ClearDemands, TrueDemands}
+use Rattle.siding.specs.Kept.{TrueDemands}
 
 -- the demands once the sections from k on are gathered
 abbrev pub Gathered : ℕ → ℕ → List ℕ → List ℕ → List ℕ → List ℤ → Type 0

@@ -1,14 +1,13 @@
 -- What drawing up makes of a sheet, case by case, and what a faultless sheet describes.
-use Rattle.std.proofs.Common.{◌≡◌, ℕ, ◌+◌, ◌*◌, ◌/◌, ◌%◌, ◌<◌, ◌≤◌, Bool, true, false, cond, not, ◌||◌, eqb, ltb, leb, ◌⊎◌, List, length, get_or, Some, None, Ok, Err, Option, Result, sym, refl, ap, ◌∙◌, inl, inr, ⊎_elim, arith}
-use Rattle.std.proofs.lemmas.Bool.{cases_eq, cond-true, cond-false, lt-ltb, le-ltb, eq-eqb, ne_eqb, or_left, or_right, or_from, not_from_true, not_from_false, ltb-false, leb-false, eqb-true, not-false}
+use Rattle.std.proofs.Common.{◌≡◌, ℕ, ◌+◌, ◌*◌, ◌/◌, ◌%◌, ◌<◌, ◌≤◌, true, false, cond, not, ◌||◌, eqb, ltb, leb, ◌⊎◌, List, length, get_or, Some, None, Ok, Err, Option, Result, sym, ap, ◌∙◌, ⊎_elim, arith}
+use Rattle.std.proofs.lemmas.Bool.{cond-true, cond-false, lt-ltb, le-ltb, eq-eqb, ne_eqb, or_left, or_right, or_from, not_from_true, not_from_false, ltb-false, leb-false, eqb-true, not-false}
 use Rattle.refusal.specs.declared.Refusal.{Refusal}
 use Rattle.refusal.specs.declared.Refusal.TheVariants.{SheetLength, SizeOutOfRange, InnerNotLower, MarkTooLarge, WagonsMiscounted}
 use Rattle.motion.specs.Tree.{Tree, total}
 use Rattle.motion.specs.Demand.{Single}
 use Rattle.motion.specs.State.{State}
-use Rattle.siding.specs.Kept.{Clear}
-use Rattle.siding.specs.Sheet.{sheet_size, word, sections_of, wagons_stated, inner_of, mark_of, inner_at_fault, mark_at_fault, lowest, slots, described, unless_at_fault, drawn, Sized, Faultless}
-use Rattle.siding.proofs.Slots.{slots_in, slots_past}
+use Rattle.siding.specs.Sheet.{sheet_size, sections_of, wagons_stated, inner_of, mark_of, inner_at_fault, mark_at_fault, lowest, slots, described, unless_at_fault, drawn, Sized, Faultless}
+use Rattle.siding.proofs.Slots.{slots_in}
 use Rattle.siding.proofs.LowestFault.{lowest_clean}
 
 -- the tests in their order

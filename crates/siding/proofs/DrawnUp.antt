@@ -1,10 +1,10 @@
 -- A siding made from what a faultless sheet holds is the one that the sheet describes.
-use Rattle.std.proofs.Common.{◌≡◌, ℕ, ◌/◌, ◌%◌, List, get_or, Ok, Err, sym, refl, ap, ◌∙◌}
+use Rattle.std.proofs.Common.{◌≡◌, ℕ, ◌/◌, ◌%◌, List, Ok, Err, sym, ap, ◌∙◌}
 use Rattle.refusal.specs.declared.Refusal.TheVariants.{WagonsMiscounted}
 use Rattle.motion.specs.Tree.{total}
-use Rattle.motion.specs.State.{State, page_begun}
+use Rattle.motion.specs.State.{page_begun}
 use Rattle.siding.specs.declared.siding.Siding.{Siding}
-use Rattle.siding.specs.Sheet.{sections_of, wagons_stated, inner_of, mark_of, slots, described, drawn, Faultless}
+use Rattle.siding.specs.Sheet.{wagons_stated, inner_of, mark_of, slots, described, drawn, Faultless}
 use Rattle.siding.specs.Stands.{state_of, standing}
 use Rattle.siding.proofs.Drawn.{drawn_counted, drawn_miscounted}
 

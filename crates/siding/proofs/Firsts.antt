@@ -1,27 +1,26 @@
 -- The first unsettled section, and the first move of its handing on.
-use Rattle.std.proofs.Common.{◌≡◌, ℕ, ◌+◌, ◌<◌, ◌≤◌, Bool, true, false, cond, ltb, ◌⊎◌, List, Some, None, Ok, Err, Decides, Option, Result, sym, refl, ap, ◌∙◌, subst, inl, inr, ⊎_elim, arith}
+use Rattle.std.proofs.Common.{◌≡◌, ℕ, ◌+◌, ◌<◌, ◌≤◌, Bool, false, ltb, List, Some, None, Ok, Err, Decides, Option, Result, sym, ap, ◌∙◌, inr, ⊎_elim, arith}
 use Rattle.std.proofs.lemmas.Bool.{le-ltb, cases_lt}
 use Rattle.std.proofs.lemmas.Bool.Decides.{not_from_Decides}
 use Rattle.refusal.specs.declared.Refusal.{Refusal}
-use Rattle.refusal.specs.declared.Refusal.TheVariants.{NumbersDiffer, PageFull}
+use Rattle.refusal.specs.declared.Refusal.TheVariants.{PageFull}
 use Rattle.motion.specs.declared.moves.Move.{Move}
 use Rattle.motion.specs.declared.ways.Way.{Way}
 use Rattle.motion.specs.declared.calls.Call.TheVariants.{Hand}
-use Rattle.motion.specs.Tree.{total}
 use Rattle.motion.specs.Demand.{figure_of}
 use Rattle.motion.specs.Visit.{FirstUnsettled, AllSettled}
-use Rattle.motion.specs.Due.{Ready, Open, LowestAsking, FirstMove, Due}
+use Rattle.motion.specs.Due.{Ready, Open, LowestAsking, FirstMove}
 use Rattle.motion.specs.Stepping.{Even}
 use Rattle.motion.specs.Moves.{Legal, moved, one_if}
-use Rattle.motion.specs.State.{State, figure, with_wagons, EqualNumbers, most_moves}
+use Rattle.motion.specs.State.{State, figure, with_wagons, most_moves}
 use Rattle.motion.specs.Calls.{hand_moved, stepped}
 use Rattle.motion.proofs.Order.{below_the_neck}
 use Rattle.motion.proofs.Asking.{unsettled_asks, ready_or_open}
 use Rattle.motion.proofs.DueMoves.{first_zero, due_is_legal}
 use Rattle.siding.specs.declared.siding.Siding.{Siding}
-use Rattle.siding.specs.Outcome.{outcome, CarriedOut}
+use Rattle.siding.specs.Outcome.{outcome}
 use Rattle.siding.specs.Stands.{state_of}
-use Rattle.siding.specs.Steps.{CalmBelow, FirstBelow, MovesFirst, IsDue, StepRefused, Stepped}
+use Rattle.siding.specs.Steps.{CalmBelow, FirstBelow, MovesFirst, IsDue, Stepped}
 use Rattle.siding.proofs.Held.{held_tree}
 use Rattle.siding.proofs.Handed.{legal_outcome, full_outcome, same_ok}
 

@@ -1,12 +1,12 @@
 -- What a siding keeps through a hand move.
-use Rattle.std.proofs.Common.{◌≡◌, ℕ, ◌+◌, ◌-◌, ◌*◌, ◌<◌, ◌≤◌, max, true, eqb, ltb, ◌≢◌, ◌⊎◌, List, length, get_or, set, ℤ, pos, negsuc, ◌+ℤ◌, nat_abs, Ok, Err, Result, sym, refl, ap, ◌∙◌, subst, inl, inr, ⊎_elim, arith}
+use Rattle.std.proofs.Common.{◌≡◌, ℕ, ◌+◌, ◌-◌, ◌*◌, ◌<◌, ◌≤◌, max, true, eqb, ltb, ◌≢◌, List, length, get_or, set, ℤ, pos, negsuc, ◌+ℤ◌, nat_abs, Ok, Err, Result, sym, ap, ◌∙◌, subst, inl, inr, ⊎_elim, arith}
 use Rattle.std.proofs.lemmas.List.{get_or-set_same, get_or-set_other, length-set}
 use Rattle.std.proofs.lemmas.Int.{ints}
 use Rattle.std.proofs.lemmas.Bool.{cases_eq, cond-true, cond-false, lt-ltb, le-ltb, eq-eqb, ne_eqb, and_from, or_left, or_right}
-use Rattle.motion.specs.Tree.{Tree, total}
+use Rattle.motion.specs.Tree.{total}
 use Rattle.motion.specs.Demand.{demand_of, figure_of, Single}
-use Rattle.motion.specs.Moves.{Neighbours, moved, one_less, one_more, Legal, one_if}
-use Rattle.motion.specs.State.{State, Balances, most_moves}
+use Rattle.motion.specs.Moves.{Neighbours, moved, one_less, Legal, one_if}
+use Rattle.motion.specs.State.{State, most_moves}
 use Rattle.motion.specs.Calls.{hand_moved}
 use Rattle.motion.specs.declared.calls.Call.TheVariants.{Hand}
 use Rattle.motion.specs.declared.moves.Move.{Move}

@@ -1,6 +1,6 @@
 -- What every siding keeps, in the forms that the proofs of its changes use.
 use Rattle.std.proofs.Common.{◌≡◌, ℕ, ◌+◌, ◌-◌, ◌<◌, ◌≤◌, Bool, true, false, cond, ltb, List, get_or, ℤ, pos, nat_abs, Ok, Err, sym, refl, ap, ◌∙◌, arith}
-use Rattle.motion.specs.Tree.{Tree, sum_to, total}
+use Rattle.motion.specs.Tree.{Tree}
 use Rattle.motion.specs.Demand.{demand_of, figure_of}
 use Rattle.motion.proofs.Bounds.{demands_within, figures_within, total_most}
 use Rattle.motion.proofs.Sums.{sum_same, sum_part}

@@ -1,10 +1,10 @@
 -- The outcome of a call is what the call does, and a refusal is given only where there is nothing that it could do.
-use Rattle.std.proofs.Common.{◌≡◌, ℕ, ◌+◌, ◌<◌, ◌≤◌, Bool, true, false, cond, not, ◌&&◌, ◌||◌, eqb, ltb, ◌⊎◌, List, get_or, Some, None, Ok, Err, Option, Result, sym, refl, ap, ◌∙◌, subst, inl, inr, ⊎_elim, arith}
-use Rattle.std.proofs.lemmas.Bool.{cases_Bool, cond-true, cond-false, ltb-true, ltb-false, eqb-true, eqb-false, and_parts, or_cases, lt-ltb, eq-eqb, ne_eqb}
+use Rattle.std.proofs.Common.{◌≡◌, ℕ, ◌<◌, Bool, true, false, cond, eqb, ltb, List, get_or, Some, None, Ok, Err, Option, Result, sym, refl, ap, ◌∙◌, inl, inr, ⊎_elim, arith}
+use Rattle.std.proofs.lemmas.Bool.{cond-true, cond-false, ltb-true, eqb-true, eqb-false, and_parts, or_cases, lt-ltb, eq-eqb, ne_eqb}
 use Rattle.refusal.specs.declared.Refusal.{Refusal}
 use Rattle.refusal.specs.declared.Refusal.TheVariants.{NoSection, AlreadyThere, NotThere, NotNeighbours, PageFull}
 use Rattle.motion.specs.Tree.{Branch, is_branch}
-use Rattle.motion.specs.Moves.{Neighbours, Legal}
+use Rattle.motion.specs.Moves.{Neighbours}
 use Rattle.motion.specs.State.{State, most_moves}
 use Rattle.motion.specs.Calls.{Does, Done, Makes}
 use Rattle.motion.proofs.DueMoves.{none_due}
@@ -13,7 +13,7 @@ use Rattle.motion.specs.declared.calls.Act.TheVariants.{Call as Called, Step}
 use Rattle.motion.specs.declared.calls.Call.{Call}
 use Rattle.motion.specs.declared.calls.Call.TheVariants.{Put, Take, Mark, Unmark, Hand, Turn}
 use Rattle.siding.specs.declared.siding.Siding.{Siding}
-use Rattle.siding.specs.Outcome.{outcome, on_section, into_empty, from_full, are_neighbours, between_neighbours, on_page, CarriedOut}
+use Rattle.siding.specs.Outcome.{outcome, on_section, into_empty, from_full, are_neighbours, CarriedOut}
 use Rattle.siding.specs.Stands.{state_of}
 use Rattle.siding.specs.Steps.{Stepped}
 use Rattle.siding.proofs.Handed.{legal_outcome, same_ok}

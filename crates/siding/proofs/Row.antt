@@ -1,8 +1,8 @@
 -- A walk along the row of a section's branches, by the links.
-use Rattle.std.proofs.Common.{◌≡◌, ℕ, ◌+◌, ◌-◌, ◌<◌, ◌≤◌, cond, eqb, ◌⊎◌, get_or, pos, sym, refl, ap, ◌∙◌, subst, ⊎_elim, arith}
+use Rattle.std.proofs.Common.{◌≡◌, ℕ, ◌-◌, ◌<◌, cond, eqb, get_or, pos, sym, ◌∙◌, subst, ⊎_elim, arith}
 use Rattle.std.proofs.lemmas.Bool.{cases_eq, cases_order}
 use Rattle.std.proofs.lemmas.Bool.Decides.{nat_tests}
-use Rattle.motion.specs.Tree.{Branch, Sisters}
+use Rattle.motion.specs.Tree.{Branch}
 use Rattle.motion.specs.Due.{Asks}
 use Rattle.motion.specs.declared.ways.Way.{Way}
 use Rattle.motion.specs.declared.ways.Way.TheVariants.{Outward, Inward}

@@ -1,11 +1,11 @@
 -- A visit from a section: the section itself, and then the row of its branches.
-use Rattle.std.proofs.Common.{◌≡◌, ℕ, ◌+◌, ◌<◌, ◌≤◌, ◌⊎◌, get_or, Some, None, Option, sym, refl, ap, ◌∙◌, subst, inl, inr, ⊎_elim, arith}
+use Rattle.std.proofs.Common.{◌≡◌, ℕ, ◌+◌, ◌<◌, ◌≤◌, get_or, Some, None, Option, sym, refl, subst, ⊎_elim, arith}
 use Rattle.std.proofs.lemmas.Bool.{cases_eq, cases_order}
-use Rattle.motion.specs.Tree.{Tree, Branch, Below, Sisters}
+use Rattle.motion.specs.Tree.{Branch, Below}
 use Rattle.motion.specs.Visit.{Before, Unsettled}
 use Rattle.motion.proofs.Order.{below_trans, before_trans, before_irrefl, before_not_below}
 use Rattle.siding.specs.declared.siding.Siding.{Siding}
-use Rattle.siding.specs.Steps.{CalmBelow, FirstBelow, Visited, InRow, RowVisited, RowFrom}
+use Rattle.siding.specs.Steps.{CalmBelow, FirstBelow, Visited, RowVisited, RowFrom}
 use Rattle.siding.proofs.Held.{held_tree}
 
 -- t lies below u: it is u, or lies below one of its branches

@@ -1,9 +1,9 @@
 -- The way inward: the demands change at each section on it, and the figure with them.
-use Rattle.std.proofs.Common.{◌≡◌, ℕ, ◌+◌, ◌-◌, ◌*◌, ◌<◌, ◌≤◌, Bool, true, false, cond, eqb, ◌≢◌, ◌⊎◌, List, length, get_or, set, ℤ, pos, ◌+ℤ◌, nat_abs, sym, refl, ap, ◌∙◌, ⊎_elim, arith}
+use Rattle.std.proofs.Common.{◌≡◌, ℕ, ◌+◌, ◌-◌, ◌*◌, ◌<◌, ◌≤◌, Bool, true, false, cond, List, length, get_or, set, ℤ, pos, ◌+ℤ◌, nat_abs, sym, ap, ◌∙◌, ⊎_elim, arith}
 use Rattle.std.proofs.lemmas.List.{get_or-set_same, get_or-set_other}
 use Rattle.std.proofs.lemmas.Int.{ints}
 use Rattle.std.proofs.lemmas.Bool.{cases_eq, ne_eqb}
-use Rattle.motion.specs.Tree.{Tree, is_below, sum_to}
+use Rattle.motion.specs.Tree.{Tree, is_below}
 use Rattle.motion.proofs.Sums.{sum_one, sum_same, sum_part, sum_most}
 use Rattle.motion.proofs.Underneath.{below_self, below_neck, below_high, below_other}
 use Rattle.siding.specs.Kept.{sizes}

@@ -1,8 +1,7 @@
 -- A siding written into a buffer, part by part.
 use Rattle.std.proofs.Common.{◌≡◌, ℕ, ◌+◌, ◌*◌, ◌≤◌, List, ◌++◌, map, length, get_or, take, Ok, sym, refl, ap, ◌∙◌, arith}
 use Rattle.std.specs.List.{range_with_len, flat_map}
-use Rattle.std.proofs.lemmas.List.{length-append}
-use Rattle.motion.specs.Tree.{Tree, total}
+use Rattle.motion.specs.Tree.{total}
 use Rattle.motion.specs.State.{State, page_begun}
 use Rattle.siding.specs.declared.siding.Siding.{Siding}
 use Rattle.siding.specs.Sheet.{drawn, two_bytes, mark, sheet_of, overwritten}

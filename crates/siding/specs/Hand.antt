@@ -1,5 +1,5 @@
 -- What a hand move needs, and what it does at the section that it crosses.
-use Rattle.std.specs.Prelude.{◌≡◌, ℕ, ◌<◌, max, List, ℤ}
+use Rattle.std.specs.Prelude.{◌≡◌, ◌<◌, max}
 use Rattle.motion.specs.Demand.{demand_of, figure_of}
 use Rattle.motion.specs.Moves.{moved, Legal}
 use Rattle.motion.specs.State.{most_moves}

@@ -1,5 +1,5 @@
 -- What each call makes of a siding, or the refusal that it meets, the tests in their order.
-use Rattle.std.specs.Prelude.{◌≡◌, ℕ, Bool, cond, not, ◌||◌, List, Ok, Err, Result, MatchResult, ◌==◌, nat_lt, slice_index}
+use Rattle.std.specs.Prelude.{◌≡◌, ℕ, Bool, cond, ◌||◌, List, Ok, Err, Result, MatchResult, ◌==◌, nat_lt, slice_index}
 use Rattle.refusal.specs.declared.Refusal.{Refusal}
 use Rattle.refusal.specs.declared.Refusal.TheVariants.{NoSection, AlreadyThere, NotThere, NotNeighbours, PageFull}
 use Rattle.motion.specs.Tree.{is_branch}

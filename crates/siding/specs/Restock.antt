@@ -1,5 +1,5 @@
 -- Other wagons or berths in a siding: what has to hold of them.
-use Rattle.std.specs.Prelude.{◌≡◌, ℕ, ◌<◌, ◌≤◌, cond, List, length, ℤ, pos, ◌+ℤ◌, unsigned_abs}
+use Rattle.std.specs.Prelude.{◌≡◌, ℕ, ◌<◌, ◌≤◌, cond, length, ℤ, pos, ◌+ℤ◌, unsigned_abs}
 use Rattle.motion.specs.Tree.{is_below, total}
 use Rattle.motion.specs.Demand.{demand_of, Single}
 use Rattle.siding.specs.declared.siding.Siding.{Siding}

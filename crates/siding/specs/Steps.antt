@@ -5,7 +5,7 @@ use Rattle.motion.specs.declared.ways.Way.TheVariants.{Outward, Inward}
 use Rattle.motion.specs.Tree.{Branch, Below}
 use Rattle.motion.specs.Visit.{Before, Unsettled, AllSettled}
 use Rattle.motion.specs.Due.{Asks, LowestAsking, FirstMove, Due}
-use Rattle.motion.specs.State.{State, EqualNumbers, most_moves}
+use Rattle.motion.specs.State.{EqualNumbers, most_moves}
 use Rattle.motion.specs.Calls.{stepped}
 use Rattle.refusal.specs.declared.Refusal.{Refusal}
 use Rattle.refusal.specs.declared.Refusal.TheVariants.{NumbersDiffer, PageFull}

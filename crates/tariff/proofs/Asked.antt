@@ -1,5 +1,5 @@
 -- The moves due come to the same as the crossings that the demands ask for, section by section.
-use Rattle.std.proofs.Common.{◌≡◌, ℕ, zero, suc, ◌+◌, ◌-◌, ◌*◌, ◌<◌, ◌≤◌, Bool, true, false, cond, eqb, ◌⊎◌, List, [], ◌∷◌, ◌++◌, length, replicate, pos, nat_abs, sym, refl, ap, ◌∙◌, ⊎_elim, arith}
+use Rattle.std.proofs.Common.{◌≡◌, ℕ, zero, suc, ◌+◌, ◌-◌, ◌<◌, ◌≤◌, Bool, true, false, cond, eqb, List, [], ◌∷◌, ◌++◌, length, replicate, nat_abs, sym, refl, ap, ◌∙◌, ⊎_elim, arith}
 use Rattle.std.proofs.lemmas.List.{length-append, length-replicate}
 use Rattle.std.proofs.lemmas.Int.{ints}
 use Rattle.std.proofs.lemmas.List.Sums.{sum_by-cons, sum_by-append}
@@ -9,7 +9,6 @@ use Rattle.motion.specs.declared.ways.Way.{Way}
 use Rattle.motion.specs.declared.ways.Way.TheVariants.{Inward, Outward}
 use Rattle.motion.specs.Tree.{sum_to, under}
 use Rattle.motion.specs.Demand.{demand_of, figure_of}
-use Rattle.motion.specs.Moves.{one_if}
 use Rattle.motion.specs.Stepping.{Stepping, Even}
 use Rattle.motion.proofs.Sums.{sum_same}
 use Rattle.motion.proofs.StepsEnd.{stepping_fills}
@@ -18,7 +17,6 @@ use Rattle.tariff.specs.Rule.{Rule, Laws}
 use Rattle.tariff.specs.Charges.{charge_of, charged, times, by_sections}
 use Rattle.tariff.proofs.Keys.{crosses, count, Fewer, Keyed, hit, key_hits}
 use Rattle.tariff.proofs.Leasts.{charged_cons, charge_by_key, charged_same}
-use Rattle.tariff.proofs.Times.{times_none, times_more}
 
 -- a move with this key
 abbrev keyed_by : Way → ℕ → Move

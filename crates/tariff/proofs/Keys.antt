@@ -1,5 +1,5 @@
 -- The key of a move, that is, the section that it crosses and its way; lists counted by keys.
-use Rattle.std.proofs.Common.{◌≡◌, ℕ, ◌<◌, ◌≤◌, Bool, true, false, cond, ◌&&◌, eqb, ltb, ◌⊎◌, List, [], ◌∷◌, count_by, sym, refl, ap, ◌∙◌, ⊎_elim, arith, ltb-true, eqb-true}
+use Rattle.std.proofs.Common.{◌≡◌, ℕ, ◌<◌, ◌≤◌, Bool, true, false, cond, ◌&&◌, eqb, List, [], ◌∷◌, count_by, sym, refl, ap, ◌∙◌, ⊎_elim, arith, ltb-true, eqb-true}
 use borrow.Author.Tests.{clash}
 use Rattle.std.proofs.lemmas.Bool.{cases_eq, eq-eqb, ne_eqb, lt-ltb, le-ltb, and_from}
 use Rattle.motion.specs.declared.moves.Move.{Move}

@@ -8,11 +8,11 @@ pub returns : goal.returns
 returns g c =
     let rule = g.F.Tariff.rule c.args.tariff.now in
     let x = state_of c.args.siding.now in
-    let billed : Billed rule x c.args.list.now c.write-due.new.list c.write-due.result =
+    let billed : Billed rule x c.args.list.now c.write_due.new.list c.write_due.result =
     written_as x _ (running rule rule.none) (λ ms. sums_running g.F.Tariff.rule (record { tariff = c.args.tariff; sum = c.nothing.result }) ms ∙ ap (λ sum. running rule sum ms) c.nothing.ensures)
-    c.args.list.now c.write-due.new.list c.write-due.result c.write-due.ensures.due in
+    c.args.list.now c.write_due.new.list c.write_due.result c.write_due.ensures.due in
     record {
       billed = billed;
-      ends = ends_in_quote rule x c.args.list.now c.write-due.new.list c.write-due.result billed;
-      lender = c.write-due.ensures.lender;
+      ends = ends_in_quote rule x c.args.list.now c.write_due.new.list c.write_due.result billed;
+      lender = c.write_due.ensures.lender;
     }

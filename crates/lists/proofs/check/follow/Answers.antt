@@ -9,17 +9,17 @@ use Rattle.lists.proofs.check.follow.Goals as goal
 pub loop-index-init : goal.loop-index-init
 loop-index-init c = (omega arith, Leads.stays)
 
-pub returns-in-err-may-move : goal.returns-in-err-may-move
-returns-in-err-may-move c =
+pub returns-in_err-may_move : goal.returns-in_err-may_move
+returns-in_err-may_move c =
     let p = err_from_is_err_and c.from_residual.result c.from_residual.ensures.1 in
     rw (p.1, p.2)
     (stopped_at c.args.sections c.args.inner.now c.args.start.now c.args.moves.now
-    c.loop-index.index _ c.loop-index.wagons _ c.loop-index-test.true c.loop-index.invariant.1 c.in-err-may-move.ensures)
+    c.loop-index.index _ c.loop-index.wagons _ c.loop-index-test.true c.loop-index.invariant.1 c.in_err-may_move.ensures)
 
 pub loop-index-preserved : goal.loop-index-preserved
 loop-index-preserved c = (
   simp length-set c.loop-index.invariant.0,
-  leads_more c.args.moves.now c.loop-index.index _ c.loop-index-test.true c.loop-index.invariant.1 c.in-ok-may-move.ensures,
+  leads_more c.args.moves.now c.loop-index.index _ c.loop-index-test.true c.loop-index.invariant.1 c.in_ok-may_move.ensures,
 )
 
 pub returns : goal.returns

@@ -5,7 +5,7 @@ use Rattle.lists.proofs.filling.write_due.Goals as goal
 pub balance-requires : goal.balance-requires
 balance-requires g c =
     let x = c.args.siding.now in
-    let may = c.in-ok-may-write.ensures in
+    let may = c.in_ok-may_write.ensures in
     let p = c.new-planner.result in
     let is = c.new-planner.ensures in
     record {
@@ -18,7 +18,7 @@ balance-requires g c =
 pub returns : goal.returns
 returns g c =
     let x = c.args.siding.now in
-    let may = c.in-ok-may-write.ensures in
+    let may = c.in_ok-may_write.ensures in
     let p = c.new-planner.result in
     let is = c.new-planner.ensures in
     record {

@@ -4,6 +4,6 @@ use Rattle.lists.proofs.plan.plan.Goals as goal
 
 pub returns : goal.returns
 returns c = record {
-  planned = written_as (state_of c.args.siding.now) _ _ (moves_themselves _) c.args.list.now c.write-due.new.list c.write-due.result c.write-due.ensures.due;
-  lender = c.write-due.ensures.lender;
+  planned = written_as (state_of c.args.siding.now) _ _ (moves_themselves _) c.args.list.now c.write_due.new.list c.write_due.result c.write_due.ensures.due;
+  lender = c.write_due.ensures.lender;
 }

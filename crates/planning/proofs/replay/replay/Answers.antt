@@ -1,4 +1,3 @@
-use Rattle.std.proofs.Common.{◌≡◌, sym}
 use Rattle.siding.specs.Stands.{state_of}
 use Rattle.planning.specs.Promise.{Promise}
 use Rattle.planning.proofs.Kept.{promised}

@@ -1,4 +1,3 @@
-use Rattle.std.proofs.Common.{◌≡◌, sym}
 use Rattle.siding.specs.Stands.{state_of}
 use Rattle.planning.proofs.Kept.{promised}
 use Rattle.quoting.specs.Promise.{Passage}

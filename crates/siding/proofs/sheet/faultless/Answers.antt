@@ -1,4 +1,4 @@
-use Rattle.std.proofs.Common.{◌≡◌, sym, ◌∙◌}
+use Rattle.std.proofs.Common.{sym}
 use Rattle.siding.proofs.Drawn.{drawn_inner_fault, drawn_mark_fault}
 use Rattle.siding.proofs.sheet.faultless.Goals as goal
 

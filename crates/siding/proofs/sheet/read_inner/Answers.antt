@@ -1,4 +1,4 @@
-use Rattle.std.proofs.Common.{◌≡◌, set, refl, ap, ◌∙◌, arith}
+use Rattle.std.proofs.Common.{set, refl, ap, ◌∙◌, arith}
 use Rattle.std.proofs.lemmas.List.{length-set}
 use Rattle.siding.specs.Sheet.{inner_of}
 use Rattle.siding.proofs.Slots.{slots_none, slots_more}

@@ -1,4 +1,4 @@
-use Rattle.std.proofs.Common.{◌≡◌, ◌<◌, ◌≤◌, ◌⊎◌, sym, ap, ◌∙◌, inl, inr, ⊎_elim, arith}
+use Rattle.std.proofs.Common.{◌≡◌, sym, ap, ◌∙◌, inl, inr, ⊎_elim, arith}
 use Rattle.siding.specs.Sheet.{sections_of, sheet_size}
 use Rattle.siding.proofs.Drawn.{drawn_short, drawn_size, drawn_length}
 use Rattle.siding.proofs.sheet.sized.Goals as goal

@@ -1,4 +1,4 @@
-use Rattle.std.proofs.Common.{ℕ, replicate, refl, arith}
+use Rattle.std.proofs.Common.{replicate, refl, arith}
 use Rattle.std.proofs.lemmas.List.{length-set}
 use Rattle.siding.proofs.Blank.{blank}
 use Rattle.siding.proofs.Links.{linked_none, linked_more}

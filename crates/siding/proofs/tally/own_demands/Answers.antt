@@ -1,4 +1,4 @@
-use Rattle.std.proofs.Common.{◌≡◌, ℕ, ◌<◌, ◌≤◌, ◌≢◌, get_or, ℤ, pos, ◌-ℤ◌, refl, ◌∙◌, arith, w16, to_z, of_z, below_more}
+use Rattle.std.proofs.Common.{◌≡◌, ℕ, ◌≢◌, get_or, ℤ, pos, ◌-ℤ◌, refl, ◌∙◌, arith, w16, to_z, of_z, below_more}
 use Rattle.std.proofs.lemmas.List.{length-set, get_or-set_same, get_or-set_other}
 use Rattle.std.proofs.lemmas.Int.{ints}
 use Rattle.siding.proofs.Blank.{blank}

@@ -1,4 +1,4 @@
-use Rattle.std.proofs.Common.{◌≡◌, ℕ, ◌<◌, ◌≤◌, length, get_or, pos, ◌-ℤ◌}
+use Rattle.std.proofs.Common.{◌≡◌, ℕ, ◌<◌, length, get_or, pos, ◌-ℤ◌}
 use Rattle.siding.specs.Kept.{ClearDemands}
 use Rattle.siding.proofs.tally.own_demands.Given as goal
 

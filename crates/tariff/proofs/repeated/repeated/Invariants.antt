@@ -1,4 +1,4 @@
-use Rattle.std.proofs.Common.{◌≡◌, ℕ}
+use Rattle.std.proofs.Common.{◌≡◌}
 use Rattle.tariff.specs.Charges.{times}
 use Rattle.tariff.proofs.repeated.repeated.Given as goal
 

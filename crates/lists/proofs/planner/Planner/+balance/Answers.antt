@@ -13,7 +13,7 @@ loop-branch-init g t c =
     let settled = c.settle.ensures.settled in
     let writer = g.W.EachMove.writer in (
       c.settle.ensures.kept,
-      row_begins writer x c.args.u c.requires.within start even c.requires.before settled c.first-branch-branch.result c.first-branch-branch.ensures,
+      row_begins writer x c.args.u c.requires.within start even c.requires.before settled c.first_branch-branch.result c.first_branch-branch.ensures,
       settled_room writer x c.args.u c.requires.within start even c.requires.before settled c.requires.room,
       refl,
     )
@@ -21,7 +21,7 @@ loop-branch-init g t c =
 pub loop-branch-smaller : goal.loop-branch-smaller
 loop-branch-smaller g t c =
     let some = c.loop-branch-test.true in
-    shorter c.args.siding.now c.loop-branch.branch c.next-branch-branch.result c.next-branch-branch.ensures some (c.loop-branch.invariant.1.at.here some).within
+    shorter c.args.siding.now c.loop-branch.branch c.next_branch-branch.result c.next_branch-branch.ensures some (c.loop-branch.invariant.1.at.here some).within
 
 pub loop-branch-preserved : goal.loop-branch-preserved
 loop-branch-preserved g t c =
@@ -32,7 +32,7 @@ loop-branch-preserved g t c =
     let balanced = c.balance.ensures.balanced in
     let writer = g.W.EachMove.writer in (
       c.balance.ensures.kept,
-      row_goes_on writer x c.args.u b some inv.1 inv.0.even balanced c.next-branch-branch.result c.next-branch-branch.ensures,
+      row_goes_on writer x c.args.u b some inv.1 inv.0.even balanced c.next_branch-branch.result c.next_branch-branch.ensures,
       branch_room writer x c.args.u b some inv.1 inv.0.even balanced inv.2,
       c.balance.ensures.lender ∙ inv.3,
     )

@@ -23,14 +23,14 @@ returns-then-asks c =
 pub loop-c-smaller : goal.loop-c-smaller
 loop-c-smaller c =
     let some = c.loop-c-test.true in
-    shorter c.args.siding.now c.loop-c.c c.next-branch-c.result c.next-branch-c.ensures some (c.loop-c.invariant.here some).within
+    shorter c.args.siding.now c.loop-c.c c.next_branch-c.result c.next_branch-c.ensures some (c.loop-c.invariant.here some).within
 
 pub loop-c-preserved : goal.loop-c-preserved
 loop-c-preserved c =
     let x = c.args.siding.now in
     let p = c.args.self.now in
     let branch = c.loop-c.invariant.here c.loop-c-test.true in
-    subst (Searched x p c.args.way c.args.u) (sym c.next-branch-c.ensures)
+    subst (Searched x p c.args.way c.args.u) (sym c.next_branch-c.ensures)
     (walk_goes x c.args.u c.loop-c.c _ c.loop-c.invariant c.loop-c-test.true
     (λ a. not_from_Decides c.asks.result c.asks.ensures c.if-asks.false
     (subst (Asked c.args.way) (sym (stored x p c.requires.kept c.loop-c.c branch.within)) a)))

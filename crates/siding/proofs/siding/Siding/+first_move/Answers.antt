@@ -1,4 +1,4 @@
-use Rattle.std.proofs.Common.{◌≡◌, ◌<◌, sym, subst, arith, rules}
+use Rattle.std.proofs.Common.{sym, subst, rules}
 use Rattle.motion.specs.Due.{FirstMove}
 use Rattle.motion.proofs.Asking.{asks_onward}
 use Rattle.motion.proofs.Order.{branch_up}

@@ -1,4 +1,4 @@
-use Rattle.std.proofs.Common.{refl, arith}
+use Rattle.std.proofs.Common.{refl}
 use Rattle.std.proofs.lemmas.Bool.Decides.{not_from_Decides}
 use Rattle.siding.proofs.Visits.{by_row, by_first, by_next, at_itself}
 use Rattle.siding.proofs.siding.Siding.+visit_visit_row.Goals as goal

@@ -1,6 +1,6 @@
-use Rattle.std.proofs.Common.{◌≡◌, ℕ, List, length, get_or, replicate, Ok, sym, refl, ap, ◌∙◌, arith}
+use Rattle.std.proofs.Common.{◌≡◌, ℕ, List, get_or, replicate, Ok, sym, refl, ap, ◌∙◌, arith}
 use Rattle.motion.specs.Tree.{sum_to}
-use Rattle.siding.specs.Sheet.{sheet_of, drawn}
+use Rattle.siding.specs.Sheet.{sheet_of}
 use Rattle.siding.specs.Stands.{standing}
 use Rattle.siding.proofs.Blank.{blank}
 use Rattle.siding.proofs.RoundTrip.{WrittenOut, written_drawn}

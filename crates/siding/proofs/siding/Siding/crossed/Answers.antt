@@ -1,4 +1,4 @@
-use Rattle.std.proofs.Common.{◌≡◌, ◌+◌, ◌≤◌, get_or, ℤ, pos, ◌+ℤ◌, nat_abs, sym, refl, ap, ◌∙◌, arith, w16, to_z, of_z}
+use Rattle.std.proofs.Common.{◌≡◌, ◌≤◌, get_or, ℤ, pos, ◌+ℤ◌, nat_abs, refl, ap, arith, w16, to_z, of_z}
 use Rattle.std.proofs.lemmas.Int.{ints}
 use Rattle.siding.proofs.Held.{held_demand, held_figure, held_part}
 use Rattle.siding.proofs.siding.Siding.crossed.Goals as goal

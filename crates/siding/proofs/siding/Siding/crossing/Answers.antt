@@ -1,4 +1,4 @@
-use Rattle.std.proofs.Common.{◌≡◌, ◌<◌, ◌≤◌, max, ◌⊎◌, refl, ⊎_elim, arith}
+use Rattle.std.proofs.Common.{arith}
 use Rattle.motion.specs.declared.moves.Move.{Move}
 use Rattle.siding.proofs.Handed.{crossed_within, crosses_inward, crosses_outward}
 use Rattle.siding.proofs.siding.Siding.crossing.Goals as goal

@@ -1,8 +1,7 @@
-use Rattle.std.proofs.Common.{◌≡◌, ℕ, ◌/◌, ◌%◌, ◌<◌, List, get_or, sym, refl, ap, ◌∙◌}
-use Rattle.motion.specs.Tree.{Tree}
+use Rattle.std.proofs.Common.{◌≡◌, ℕ, List, get_or, sym, refl, ap, ◌∙◌}
 use Rattle.motion.specs.Demand.{Single}
 use Rattle.siding.specs.Kept.{Clear}
-use Rattle.siding.specs.Sheet.{inner_of, mark_of, slots, Faultless}
+use Rattle.siding.specs.Sheet.{slots, Faultless}
 use Rattle.siding.proofs.Drawn.{described_tree, described_wagons, described_berths}
 use Rattle.siding.proofs.DrawnUp.{drawn_up, not_drawn_up}
 use Rattle.siding.proofs.RoundTrip.{drawn_written}

@@ -1,5 +1,5 @@
-use Rattle.std.proofs.Common.{◌≡◌, ℕ, ◌+◌, ◌-◌, ◌<◌, ◌≤◌, get_or, pos, negsuc, sym, ap, ◌∙◌, subst, arith}
-use Rattle.motion.specs.Moves.{one_less, one_more}
+use Rattle.std.proofs.Common.{ℕ, ◌+◌, pos, sym, ap, subst, arith}
+use Rattle.motion.specs.Moves.{one_more}
 use Rattle.siding.specs.declared.stock.Stock.{Stock}
 use Rattle.siding.specs.Restock.{MayStand}
 use Rattle.siding.proofs.Held.{held_berths, section_in}

@@ -1,4 +1,4 @@
-use Rattle.std.proofs.Common.{◌≡◌, ℕ, ◌+◌, ◌*◌, ◌≤◌, length, get_or, sym, ap, ◌∙◌, arith}
+use Rattle.std.proofs.Common.{◌≡◌, ℕ, ◌+◌, ◌*◌, length, get_or, ap, ◌∙◌, arith}
 use Rattle.siding.specs.Sheet.{overwritten, two_bytes}
 use Rattle.siding.proofs.Overwritten.{overwritten_none, overwritten_after}
 use Rattle.siding.proofs.Pairs.{pairs, length_pairs, pairs_more}

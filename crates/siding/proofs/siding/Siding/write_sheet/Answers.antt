@@ -1,5 +1,5 @@
-use Rattle.std.proofs.Common.{◌≡◌, ◌+◌, ◌*◌, ◌≤◌, length, sym, refl, ap, ◌∙◌, arith}
-use Rattle.siding.specs.Sheet.{overwritten, two_bytes, sheet_of}
+use Rattle.std.proofs.Common.{sym, refl, ap, ◌∙◌, arith}
+use Rattle.siding.specs.Sheet.{overwritten, two_bytes}
 use Rattle.siding.specs.Stands.{state_of}
 use Rattle.siding.proofs.RoundTrip.{sheet_length}
 use Rattle.siding.proofs.WrittenOut.{written_out, read_back}
