@@ -49,7 +49,7 @@ fn sheet_is_written(rt: HostRuntime) -> Result<(), Fail> {
     let mut buffer = [7u8; 18];
     assert_eq!(rt; siding.write_sheet(&mut buffer), Ok(16));
     assert!(rt; &buffer[0..16] == FORK);
-    assert!(rt; &buffer[16..18] == [7u8, 7]);
+    assert!(rt; &buffer[16..18] == [7u8, 7].as_slice());
     Ok(())
 }
 
