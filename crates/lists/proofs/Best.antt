@@ -1,5 +1,5 @@
 -- The plan that is written is the best there is.
-use Rattle.std.proofs.Common.{◌≡◌, ℕ, ◌≤◌, List, length, take, Ok, sym, refl, ap, ◌∙◌, subst, arith}
+use Rattle.std.proofs.Common.{◌≡◌, ℕ, length, take, Ok, sym, refl, ap, ◌∙◌, subst, arith}
 use Rattle.std.proofs.lemmas.List.{take_at}
 use Rattle.motion.specs.declared.moves.Move.{Move}
 use Rattle.motion.specs.Promises.{FillsFrom}

@@ -14,7 +14,7 @@ use Rattle.motion.proofs.Serving.{Served, Nearer, nearer}
 use Rattle.siding.specs.declared.siding.Siding.{Siding}
 use Rattle.siding.specs.Kept.{TrueDemands}
 use Rattle.siding.proofs.Held.{held_tree}
-use Rattle.siding.proofs.Row.{asks_asked}
+use Rattle.lists.proofs.Asks.{asks_asked}
 use Rattle.lists.specs.declared.planner.Planner.{Planner}
 use Rattle.lists.specs.declared.list.List.{List as Slots}
 use Rattle.lists.specs.Balanced.{figure_at, HasRoom}

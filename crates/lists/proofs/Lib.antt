@@ -1,3 +1,4 @@
+pub mod Asks
 pub mod Searches
 pub mod Carries
 pub mod Writes

@@ -10,7 +10,8 @@ use Rattle.motion.specs.Due.{Asks, LowestAsking}
 use Rattle.motion.proofs.Bounds.{demands_within}
 use Rattle.siding.specs.declared.siding.Siding.{Siding}
 use Rattle.lists.specs.declared.planner.Planner.{Planner}
-use Rattle.siding.proofs.Row.{to_go, to_go_less, asked_asks, asks_asked}
+use Rattle.siding.proofs.Row.{to_go, to_go_less}
+use Rattle.lists.proofs.Asks.{asked_asks, asks_asked}
 use Rattle.lists.specs.Planner.{cursors, with_cursor, Searched, Kept, Reached}
 
 -- what is left of a row is less after each of its branches

@@ -8,7 +8,7 @@ use Rattle.motion.specs.Due.{Asked, Asks, over, Eased, LowestAsking}
 use Rattle.motion.specs.Stepping.{Even}
 use Rattle.siding.specs.declared.siding.Siding.{Siding}
 use Rattle.siding.specs.Kept.{TrueDemands}
-use Rattle.siding.specs.Steps.{Walked}
+use Rattle.siding.proofs.Row.{Walked}
 use Rattle.lists.specs.declared.planner.Planner.{Planner}
 
 -- the cursors of one way: for each section, the branch that the search for one that asks has come to, 0 past the last

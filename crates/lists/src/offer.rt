@@ -19,7 +19,7 @@ pub struct Offer<S> {
 }
 
 // Writes the plan into the list, as `plan` does, and answers it with its quote under a tariff.
-pub fn offer<F: Tariff>(
+pub fn make_offer<F: Tariff>(
     siding: &Siding,
     tariff: &F,
     list: &mut List<Move>,
