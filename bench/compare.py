@@ -1,14 +1,15 @@
 #!/usr/bin/env python3
 """Compares the proved program `day` with the plain one on many inputs, and times both on a long day.
 
-From the repository's root: rt check day && rustc -O -o target/plain_day bench/plain_day.rs && bench/compare.py
+From the repository's root, once the program is built (cd crates/day && rt run < stdin):
+mkdir -p target && rustc -O -o target/plain_day bench/plain_day.rs && bench/compare.py
 """
 import random
 import subprocess
 import sys
 import time
 
-PROVED, PLAIN = "target/bin/day", "target/plain_day"
+PROVED, PLAIN = "crates/day/out/day", "target/plain_day"
 
 
 def sheet(rng, n, shape):
