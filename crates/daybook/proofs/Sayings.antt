@@ -20,9 +20,9 @@ move_read :
     → m.from ≤ largest
     → m.to ≤ largest
     → move_of (blank ∷ (decimal m.from ++ (blank ∷ (decimal m.to ++ (line_end ∷ []))))) ≡ Some m
-move_read m from-fits to-fits =
-    ap two_sections (number_read blank (decimal m.to ++ (line_end ∷ [])) refl m.from from-fits)
-    ∙ ap (option_map (λ to. record { from = m.from; to = to })) (section_read m.to to-fits)
+move_read m from_fits to_fits =
+    ap two_sections (number_read blank (decimal m.to ++ (line_end ∷ [])) refl m.from from_fits)
+    ∙ ap (option_map (λ to. record { from = m.from; to = to })) (section_read m.to to_fits)
 
 act_read : (a : Act) → NumbersFit a → line_of (written a) ≡ Some a
 act_read (Called (Put s)) fits = ap (option_map (λ s. Called (Put s))) (section_read s fits)

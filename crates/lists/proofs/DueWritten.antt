@@ -65,12 +65,12 @@ module _ (x : Siding) (equal : EqualNumbers (state_of x)) where
           ∙ ap (λ k. entries writer w made.moves ++ drop k list.slots.now) (let e : 0 + length made.moves ≡ length (entries writer w made.moves) = omega (arith, length_entries writer w made.moves) in e)
 
       pub writes_due : (answer : ℕ) → answer ≡ length (held then) → DueWritten (state_of x) (entries writer w) list then answer
-      writes_due answer is-length = record {
+      writes_due answer is_length = record {
         equal = equal;
         room = room;
         moves = made.moves;
         due = (end, due);
         count = count;
-        answers = is-length ∙ length-take-le then.len then.slots.now then.fits ∙ long;
+        answers = is_length ∙ length-take-le then.len then.slots.now then.fits ∙ long;
         written = record { len = long ∙ sym (length_entries writer w made.moves); slots = slots };
       }

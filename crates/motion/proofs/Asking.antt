@@ -135,7 +135,7 @@ module _ (n : ℕ) (inner wagons berths : List ℕ) where
     -- a section that asks and is ready has a branch that asks
     pub asks_onward : (way : Way) (u : ℕ) → u < n → Ready way wagons u → Asks way n inner wagons berths u → (v : ℕ) × LowestAsking way n inner wagons berths u v
     asks_onward way u l ready asks =
-        let more-there = asks_then way u asks in
+        let more_there = asks_then way u asks in
         elim (lowest_or_none way u) [
           | inl f ↦ f
           | inr none ↦ let z : ⊥ = omega (arith, (none_asks way u l ready (omega arith) none).0) in absurd z

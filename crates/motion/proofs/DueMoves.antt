@@ -90,9 +90,9 @@ pub some_due : (n : ℕ) (inner wagons berths : List ℕ) → Even n inner wagon
 some_due n inner wagons berths even u l un =
     let f = first_unsettled n inner wagons berths even.tree u l un in
     let first = f.1 in
-    let zero-there = first_zero n inner wagons berths even f.0 first.within first.none_before in
+    let zero_there = first_zero n inner wagons berths even f.0 first.within first.none_before in
     let way = some_way wagons f.0 in
-    let low = unsettled_asks n inner wagons berths even.tree even.one_berth way.0 f.0 first.within way.1 zero-there first.unsettled in
+    let low = unsettled_asks n inner wagons berths even.tree even.one_berth way.0 f.0 first.within way.1 zero_there first.unsettled in
     let move = first_move way.0 n inner wagons berths even n f.0 low.0 (omega arith) low.1 in
     (move.0, record { way = way.0; section = f.0; first = first; ready = way.1; move = move.1 })
 

@@ -44,8 +44,8 @@ onward_first x way u v None low ready first = first
 
 -- a branch that is not open is ready to hand on itself
 pub ready_unless_open : (way : Way) (wagons : List ℕ) (v : ℕ) (r : Bool) → Decides r (Open way wagons v) → r ≡ false → Ready way wagons v
-ready_unless_open way wagons v r decides no-open =
-    ⊎_elim (λ (h : Ready way wagons v). h) (λ (o : Open way wagons v). absurd (not_from_Decides r decides no-open o)) (ready_or_open way wagons v)
+ready_unless_open way wagons v r decides no_open =
+    ⊎_elim (λ (h : Ready way wagons v). h) (λ (o : Open way wagons v). absurd (not_from_Decides r decides no_open o)) (ready_or_open way wagons v)
 
 -- with as many wagons as berths
 pub held_even : (x : Siding) → x.wagon_count ≡ x.berth_count → Even x.sections x.inner x.wagons x.berths

@@ -28,7 +28,8 @@ impl Siding {
         let n = faultless(sheet)?;
         let (wagons, berths) = read_marks(sheet, n);
         let next = Siding::fresh(n, read_inner(sheet, n), wagons, berths);
-        if next.wagon_count != word_at(sheet, 2) {
+        let miscounted = next.wagon_count != word_at(sheet, 2);
+        if miscounted {
             return Err(Refusal::WagonsMiscounted);
         }
         *self = next;

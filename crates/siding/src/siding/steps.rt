@@ -56,7 +56,8 @@ impl Siding {
     {
         let mut c = self.first[u] as usize;
         while c > 0 {
-            if self.demand[c] != 0 {
+            let wants = self.demand[c] != 0;
+            if wants {
                 return true;
             }
             c = self.next[c] as usize;

@@ -1,4 +1,4 @@
-use Rattle.std.proofs.Common.{sym, subst}
+use Rattle.std.proofs.Common.{sym, subst, rules}
 use Rattle.motion.specs.declared.calls.Act.{Act}
 use Rattle.motion.specs.Calls.{Makes}
 use Rattle.siding.specs.Stands.{state_of}
@@ -11,6 +11,4 @@ returns-in-Call c =
     (carried_makes _ _ _ c.make.result c.make.ensures)
 
 pub returns-in-Step : goal.returns-in-Step
-returns-in-Step c =
-    subst (λ (a : Act). Makes a (state_of c.args.siding.now) (state_of c.step.new.self)) (sym c.in-Step.is)
-    (stepped_makes _ _ c.step.result c.step.ensures)
+returns-in-Step c = rw c.in-Step.is (search (rules, stepped_makes))

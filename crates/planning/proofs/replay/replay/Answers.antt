@@ -1,3 +1,4 @@
+use Rattle.std.proofs.Common.{◌≡◌, sym}
 use Rattle.siding.specs.Stands.{state_of}
 use Rattle.planning.specs.Promise.{Promise}
 use Rattle.planning.proofs.Kept.{promised}
@@ -8,10 +9,6 @@ returns c =
     let accepted = c.in_ok-draw_up.ensures.drawn in
     let start = c.draw_up.new.self in
     let end = c.act_all.new.siding in
-    let f = c.figure.ensures in
-    let h = c.head.ensures in
-    let m = c.moves.ensures in
-    let a = c.away.ensures in
     let promise : Promise c.args.acts.now (state_of start) (state_of end) = promised c.args.acts.now start end c.act_all.ensures in
     record {
       run = rw accepted promise;

@@ -1,4 +1,4 @@
-use Rattle.std.proofs.Common.{refl}
+use Rattle.std.proofs.Common.{refl, arith}
 use Rattle.std.proofs.lemmas.Bool.Decides.{not_from_Decides}
 use Rattle.siding.proofs.Visits.{by_row, by_first, by_next, at_itself}
 use Rattle.siding.proofs.siding.Siding.+visit_visit_row.Goals as goal
@@ -14,6 +14,6 @@ visit-returns-else-is_unsettled t c =
 
 pub visit_row-returns-in-None : goal.visit_row-returns-in-None
 visit_row-returns-in-None t c = (
-  λ e. absurd (c.if-branch-eq0.false e),
+  λ e. absurd (omega arith),
   λ p. by_next c.args.self.now c.args.branch c.visit_row.result p c.requires c.in-None.ensures c.visit_row.ensures,
 )

@@ -1,4 +1,4 @@
-use Rattle.std.proofs.Common.{◌≡◌, ℕ, List, get_or, sym, refl, ap, ◌∙◌}
+use Rattle.std.proofs.Common.{◌≡◌, ℕ, List, get_or, refl, ap, ◌∙◌, arith}
 use Rattle.motion.specs.Demand.{Single}
 use Rattle.siding.specs.Kept.{Clear}
 use Rattle.siding.specs.Sheet.{slots, Faultless}
@@ -28,11 +28,11 @@ fresh-next-requires c =
       clear = (clear_of n _ bytes _ clean i, (clear_of n _ bytes _ clean w, clear_of n _ bytes _ clean b));
     }
 
-pub returns-then-next-word_at : goal.returns-then-next-word_at
-returns-then-next-word_at c = record {
+pub returns-then-miscounted : goal.returns-then-miscounted
+returns-then-miscounted c = record {
   drawn = (
     not_drawn_up c.args.sheet.now c.in_ok-n.n c.in_ok-n.ensures _ _ _ c.read_inner.ensures c.read_marks.ensures.wagons c.read_marks.ensures.berths
-        c.fresh-next.result c.fresh-next.ensures (λ e. c.if-next-word_at.true (e ∙ sym c.word_at.ensures)),
+        c.fresh-next.result c.fresh-next.ensures (λ e. omega arith),
     refl,
   );
   sheet_round_trip = tt;
@@ -41,7 +41,7 @@ returns-then-next-word_at c = record {
 pub returns : goal.returns
 returns c =
     let done = drawn_up c.args.sheet.now c.in_ok-n.n c.in_ok-n.ensures _ _ _ c.read_inner.ensures c.read_marks.ensures.wagons c.read_marks.ensures.berths
-    c.fresh-next.result c.fresh-next.ensures (c.if-next-word_at.false ∙ c.word_at.ensures) in
+    c.fresh-next.result c.fresh-next.ensures (omega arith) in
     record {
       drawn = done;
       sheet_round_trip = drawn_written c.args.sheet.now (λ k. (c.type_inv.sheet k).fits) _ done;

@@ -7,12 +7,12 @@ use Rattle.siding.proofs.siding.Siding.is_unsettled.Goals as goal
 pub loop-c-init : goal.loop-c-init
 loop-c-init c = walk_starts c.args.self.now c.args.u _
 
-pub returns-then-self-c-ne0 : goal.returns-then-self-c-ne0
-returns-then-self-c-ne0 c =
+pub returns-then-wants : goal.returns-then-wants
+returns-then-wants c =
     let x = c.args.self.now in
     let branch = c.loop-c.invariant.here c.loop-c-test.true in
     let small = held_demand x c.loop-c.c branch.within in (
-      λ _. record { at = c.loop-c.c; branch = branch; wants = λ e. let d = x.demands c.loop-c.c branch.within ∙ e in c.if-self-c-ne0.true (omega (arith, ints)) },
+      λ _. record { at = c.loop-c.c; branch = branch; wants = λ e. let d = x.demands c.loop-c.c branch.within ∙ e in omega (arith, ints) },
       λ _. refl,
     )
 
@@ -24,7 +24,7 @@ loop-c-preserved c =
     let x = c.args.self.now in
     let branch = c.loop-c.invariant.here c.loop-c-test.true in
     let small = held_demand x c.loop-c.c branch.within in
-    walk_goes x c.args.u c.loop-c.c _ c.loop-c.invariant c.loop-c-test.true (omega (arith, ints, c.if-self-c-ne0.false))
+    walk_goes x c.args.u c.loop-c.c _ c.loop-c.invariant c.loop-c-test.true (omega (arith, ints, c.if-wants.false))
 
 pub returns : goal.returns
 returns c =
