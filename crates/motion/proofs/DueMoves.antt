@@ -28,10 +28,10 @@ record FirstOf (n : ℕ) (inner wagons berths : List ℕ) (k u : ℕ) : Type 0 w
   unsettled : Unsettled n inner wagons berths u
   none_before : (t : ℕ) → t < k → Before n inner t u → Unsettled n inner wagons berths t → ⊥
 
-first_of : (n : ℕ) (inner wagons berths : List ℕ) → Tree n inner → (u : ℕ) → u < n → Unsettled n inner wagons berths u → (k : ℕ) → k ≤ n → (v : ℕ) × FirstOf n inner wagons berths k v
-first_of n inner wagons berths tree u l un zero le = (u, record { within = l; unsettled = un; none_before = λ t p. omega arith })
-first_of n inner wagons berths tree u l un (suc k) le =
-    let f = first_of n inner wagons berths tree u l un k (omega arith) in
+first_among : (n : ℕ) (inner wagons berths : List ℕ) → Tree n inner → (u : ℕ) → u < n → Unsettled n inner wagons berths u → (k : ℕ) → k ≤ n → (v : ℕ) × FirstOf n inner wagons berths k v
+first_among n inner wagons berths tree u l un zero le = (u, record { within = l; unsettled = un; none_before = λ t p. omega arith })
+first_among n inner wagons berths tree u l un (suc k) le =
+    let f = first_among n inner wagons berths tree u l un k (omega arith) in
     let v : ℕ = f.0 in
     elim (both (before_or_not n inner tree k v (omega arith) f.1.within) (unsettled_or_not n inner wagons berths k)) [
       | inl new ↦ (
@@ -61,7 +61,7 @@ first_of n inner wagons berths tree u l un (suc k) le =
 -- where some section is unsettled, one is the first
 first_unsettled : (n : ℕ) (inner wagons berths : List ℕ) → Tree n inner → (u : ℕ) → u < n → Unsettled n inner wagons berths u → (v : ℕ) × FirstUnsettled n inner wagons berths v
 first_unsettled n inner wagons berths tree u l un =
-    let f = first_of n inner wagons berths tree u l un n (omega arith) in
+    let f = first_among n inner wagons berths tree u l un n (omega arith) in
     (f.0, record { within = f.1.within; unsettled = f.1.unsettled; none_before = f.1.none_before })
 
 -- it has no demand itself: it is the neck, or its inner neighbour comes before it, and is settled

@@ -1,7 +1,7 @@
 -- The lowest number that a test finds: a loop that looks for it from 0 on.
 use Rattle.std.proofs.Common.{◌≡◌, ℕ, zero, suc, ◌+◌, ◌<◌, Bool, true, false, cond, Some, None, Option, sym, refl, ap, ◌∙◌, ⊎_elim, add-one, arith}
 use Rattle.std.proofs.lemmas.Bool.{cases_eq, cond-true, cond-false}
-use Rattle.siding.specs.Sheet.{lowest, first_of}
+use Rattle.siding.specs.Sheet.{lowest, first_found}
 
 pub lowest_none : (f : ℕ → Bool) → lowest f 0 ≡ None
 unfolding lowest
@@ -10,7 +10,7 @@ lowest_none f = refl
 -- nothing found so far: the next number decides
 step : (f : ℕ → Bool) (k : ℕ) → lowest f k ≡ None → lowest f (suc k) ≡ cond (f k) (Some k) None
 unfolding lowest
-step f k none = ap (λ o. first_of o (cond (f k) (Some k) None)) none
+step f k none = ap (λ o. first_found o (cond (f k) (Some k) None)) none
 
 pub lowest_more : (f : ℕ → Bool) (k : ℕ) → lowest f k ≡ None → f k ≡ false → lowest f (k + 1) ≡ None
 lowest_more f k none fails = rw add-one (step f k none ∙ cond-false (f k) (Some k) None fails)
@@ -22,11 +22,11 @@ lowest_found f k zero none finds l = let z : ⊥ = omega arith in absurd z
 lowest_found f k (suc n) none finds l =
     ⊎_elim
     (λ (e : k ≡ n). ap (λ m. lowest f (suc m)) (sym e) ∙ step f k none ∙ cond-true (f k) (Some k) None finds)
-    (λ (ne : k ≡ n → ⊥). ap (λ o. first_of o (cond (f n) (Some n) None)) (lowest_found f k n none finds (omega arith)))
+    (λ (ne : k ≡ n → ⊥). ap (λ o. first_found o (cond (f n) (Some n) None)) (lowest_found f k n none finds (omega arith)))
     (cases_eq k n)
 
 -- nothing found: the test fails on every number
-both_none : (o p : Option ℕ) → first_of o p ≡ None → (o ≡ None) × (p ≡ None)
+both_none : (o p : Option ℕ) → first_found o p ≡ None → (o ≡ None) × (p ≡ None)
 both_none (Some s) p e = (cc, cc)
 both_none None p e = (refl, e)
 

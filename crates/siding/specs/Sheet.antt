@@ -37,14 +37,14 @@ inner_at_fault bytes s = cond (s == 0) (not (inner_of bytes s == 0)) (nat_le s (
 abbrev pub mark_at_fault : List ℕ → ℕ → Bool
 mark_at_fault bytes s = nat_lt 3 (mark_of bytes s)
 
-abbrev pub first_of : Option ℕ → Option ℕ → Option ℕ
-first_of (Some s) other = Some s
-first_of None other = other
+abbrev pub first_found : Option ℕ → Option ℕ → Option ℕ
+first_found (Some s) other = Some s
+first_found None other = other
 
 -- the lowest number below n that a test finds
 unfoldable pub lowest : (ℕ → Bool) → ℕ → Option ℕ
 lowest test zero = None
-lowest test (suc k) = first_of (lowest test k) (cond (test k) (Some k) None)
+lowest test (suc k) = first_found (lowest test k) (cond (test k) (Some k) None)
 
 -- 512 slots: an entry for each of n sections, and then 0
 unfoldable pub slots : ℕ → (ℕ → ℕ) → List ℕ
