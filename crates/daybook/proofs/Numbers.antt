@@ -5,7 +5,7 @@ use Rattle.std.specs.Str.{all_ascii_digits}
 use Rattle.std.proofs.lemmas.Fmt.{decimal_digit, first_decimal, digits_decimal, digits_value-decimal, decimal-digits_value}
 use Rattle.std.proofs.lemmas.Str.Parse.{IsNumeralModel, numerals_by_fold}
 use Rattle.std.proofs.lemmas.Bool.{ltb-false, leb-true, eqb-true, eqb-false, le-ltb, ne_eqb, and_parts, and_from, cond_both, cases_eq}
-use Rattle.daybook.specs.Line.{digits_from, number_from, number_of, digit_value, with_digit, byte_of, largest, blank}
+use Rattle.daybook.specs.Line.{digits_from, number_from, number_of, digit_worth, with_digit, byte_of, largest, blank}
 
 -- the number that digits make after n
 abbrev made_of : ℕ → List ℕ → ℕ
@@ -16,7 +16,7 @@ own : IsNumeralModel (λ ds. all_ascii_digits ds ≡ true) (made_of 0)
 own = numerals_by_fold _ (search rules) made_of (search rules)
 
 -- so the first digit makes a number, and the others go on from it
-first_makes : (d : ℕ) (ds : List ℕ) → made_of (digit_value d) ds ≡ made_of 0 (d ∷ ds)
+first_makes : (d : ℕ) (ds : List ℕ) → made_of (digit_worth d) ds ≡ made_of 0 (d ∷ ds)
 first_makes d ds = ap (λ n. made_of n ds) (omega arith)
 
 -- digits make no number smaller
@@ -49,7 +49,7 @@ module _ (e : ℕ) (rest : List ℕ) (other : is_ascii_digit e ≡ false) where
       let h = and_parts (is_ascii_digit d) (all_ascii_digits ds) digits in
       let same = first_makes d ds in
       rw (ne_eqb d (byte_of "0") (λ e. omega arith), h.0)
-      (digits_read (digit_value d) ds h.1 (omega arith) ∙ ap (λ v. Some (v, e ∷ rest)) same)
+      (digits_read (digit_worth d) ds h.1 (omega arith) ∙ ap (λ v. Some (v, e ∷ rest)) same)
 
   -- a number that is written is read
   pub number_read : (n : ℕ) → n ≤ largest → number_of (blank ∷ (decimal n ++ (e ∷ rest))) ≡ Some (n, e ∷ rest)
@@ -107,7 +107,7 @@ then_written :
     (d : ℕ) (ds : List ℕ) (o : Option (ℕ × List ℕ))
     → is_ascii_digit d ≡ true
     → (d ≡ byte_of "0" → ⊥)
-    → IfSome o (Read (digit_value d) ds)
+    → IfSome o (Read (digit_worth d) ds)
     → IfSome o (NumberWritten (blank ∷ d ∷ ds))
 then_written d ds None digit some was = tt
 then_written d ds (Some (v, rest)) digit some was =
@@ -122,10 +122,10 @@ some_written :
     (d : ℕ) (ds : List ℕ)
     → is_ascii_digit d ≡ true
     → (d ≡ byte_of "0" → ⊥)
-    → IfSome (digits_from (digit_value d) ds) (NumberWritten (blank ∷ d ∷ ds))
+    → IfSome (digits_from (digit_worth d) ds) (NumberWritten (blank ∷ d ∷ ds))
 some_written d ds digit some =
     let high = leb-true d 57 (and_parts (leb 48 d) (leb d 57) digit).1 in
-    then_written d ds (digits_from (digit_value d) ds) digit some (was_read (digit_value d) ds (omega arith))
+    then_written d ds (digits_from (digit_worth d) ds) digit some (was_read (digit_worth d) ds (omega arith))
 
 from_written : (d : ℕ) (ds : List ℕ) → IfSome (number_from d ds) (NumberWritten (blank ∷ d ∷ ds))
 from_written d ds =

@@ -42,12 +42,12 @@ Says line None = (a : Act) → NumbersFit a → line ≢ written a
 abbrev pub byte_of : String → ℕ
 byte_of text = slice_index (codes text) 0
 
-abbrev pub digit_value : ℕ → ℕ
-digit_value d = d - byte_of "0"
+abbrev pub digit_worth : ℕ → ℕ
+digit_worth d = d - byte_of "0"
 
 -- a number with one digit more
 abbrev pub with_digit : ℕ → ℕ → ℕ
-with_digit n d = 10 * n + digit_value d
+with_digit n d = 10 * n + digit_worth d
 
 -- the number that digits make after those that made n, and what follows them; without anything after them they make none
 unfoldable pub digits_from : ℕ → List ℕ → Option (ℕ × List ℕ)
@@ -57,7 +57,7 @@ digits_from n (b ∷ bs) =
 
 -- the number that begins with this digit, and what follows it; after a 0 it has no more digits
 abbrev pub number_from : ℕ → List ℕ → Option (ℕ × List ℕ)
-number_from d rest = cond (d == (byte_of "0")) (Some (0, rest)) (cond (is_ascii_digit d) (digits_from (digit_value d) rest) None)
+number_from d rest = cond (d == (byte_of "0")) (Some (0, rest)) (cond (is_ascii_digit d) (digits_from (digit_worth d) rest) None)
 
 abbrev pub blank : ℕ
 blank = byte_of " "

@@ -103,7 +103,8 @@ impl Siding {
         match self.asking(way, u) {
             None => None,
             Some(v) => {
-                if self.is_open(way, v) {
+                let open = self.is_open(way, v);
+                if open {
                     Some(move_over(way, u as u16, v as u16))
                 } else {
                     self.first_move(way, v)

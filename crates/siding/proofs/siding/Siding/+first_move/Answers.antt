@@ -11,14 +11,14 @@ first_move-requires t c =
     let x = c.args.self.now in
     let low = c.in-Some.ensures in
     let up = branch_up x.sections x.inner (held_tree x) low.branch in
-    (search rules, (low.branch.within, asks_onward x.sections x.inner x.wagons x.berths (held_tree x) x.one_berth c.args.way c.in-Some.v low.branch.within (ready_unless_open _ _ _ c.is_open.result c.is_open.ensures c.if-is_open.false) low.asks))
+    (search rules, (low.branch.within, asks_onward x.sections x.inner x.wagons x.berths (held_tree x) x.one_berth c.args.way c.in-Some.v low.branch.within (ready_unless_open _ _ _ c.is_open-open.result c.is_open-open.ensures c.if-open.false) low.asks))
 
-pub returns-then-is_open : goal.returns-then-is_open
-returns-then-is_open t c =
+pub returns-then-open : goal.returns-then-open
+returns-then-open t c =
     let x = c.args.self.now in
     subst (FirstMove c.args.way x.sections x.inner x.wagons x.berths c.args.u) (sym c.move_over.ensures)
-    (FirstMove.straight c.in-Some.ensures (c.is_open.ensures.0 c.if-is_open.true))
+    (FirstMove.straight c.in-Some.ensures (c.is_open-open.ensures.0 c.if-open.true))
 
-pub returns-else-is_open : goal.returns-else-is_open
-returns-else-is_open t c =
-    onward_first c.args.self.now c.args.way c.args.u c.in-Some.v c.first_move.result c.in-Some.ensures (ready_unless_open _ _ _ c.is_open.result c.is_open.ensures c.if-is_open.false) c.first_move.ensures
+pub returns-else-open : goal.returns-else-open
+returns-else-open t c =
+    onward_first c.args.self.now c.args.way c.args.u c.in-Some.v c.first_move.result c.in-Some.ensures (ready_unless_open _ _ _ c.is_open-open.result c.is_open-open.ensures c.if-open.false) c.first_move.ensures
