@@ -91,7 +91,7 @@ fn page_is_turned(rt: HostRuntime) -> Result<(), Fail> {
     Ok(())
 }
 
-fn fork() -> Result<Siding, Refusal> {
+pub(crate) fn fork() -> Result<Siding, Refusal> {
     let mut siding = Siding::bare();
     siding.draw_up(FORK)?;
     Ok(siding)

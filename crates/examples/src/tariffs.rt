@@ -2,6 +2,7 @@
 ghost use Rattle.std.specs.Prelude.{◌≡◌, false, not, ◌||◌, ◌==◌};
 ghost use Rattle.std.proofs.Common.{rules};
 
+use crate::sidings::fork;
 use motion::ways::Way;
 use quoting::quote::quote;
 use refusal::Refusal;
@@ -13,15 +14,6 @@ use tariff::metres::Metres;
 use tariff::move_count::MoveCount;
 use tariff::pair::Pair;
 use tariff::steepest::Steepest;
-
-// Four sections, a wagon in 3, a berth in 2.
-const FORK: &[u8] = b"\x00\x04\x00\x01\x00\x00\x00\x00\x00\x00\x00\x01\x00\x00\x02\x01";
-
-fn fork() -> Result<Siding, Refusal> {
-    let mut siding = Siding::bare();
-    siding.draw_up(FORK)?;
-    Ok(siding)
-}
 
 fn metres() -> Result<Metres, Refusal> {
     let mut metres = Metres::level();
