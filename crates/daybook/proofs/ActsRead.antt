@@ -1,19 +1,21 @@
 -- How the acts of lines go on.
-use Rattle.std.proofs.Common.{◌≡◌, ℕ, List, [], ◌∷◌, ◌++◌, length, Some, None, arith}
+use Rattle.std.proofs.Common.{◌≡◌, ℕ, List, [], ◌∷◌, ◌++◌, length, Some, None, Ok, Err, Result, IfErr, arith}
+use Rattle.std.specs.Result.{IsErrAnd}
 use Rattle.std.proofs.lemmas.List.{append-nil, append_assoc}
 use Rattle.motion.specs.declared.calls.Act.{Act}
 use Rattle.daybook.specs.Input.{cut}
 use Rattle.daybook.specs.Line.{line_of}
-use Rattle.daybook.specs.Acts.{Say, NoActs}
+use Rattle.refusal.specs.declared.Refusal.{Refusal}
+use Rattle.refusal.specs.declared.Refusal.TheVariants.{BadLine}
+use Rattle.daybook.specs.declared.acts.Unread.{Unread}
+use Rattle.daybook.specs.declared.acts.Unread.TheVariants.{Refused}
+use Rattle.daybook.specs.Acts.{Say, NoActs, WhyUnread}
 
 -- these acts have been read, and the lines of the rest are left: they are the acts of all lines with those of the rest,
 -- and all lines say acts only if the rest do
 pub record Read (all rest : List (List ℕ)) (acts : List Act) : Type 0 where
   pub on : (more : List Act) → Say rest more → Say all (acts ++ more)
   pub back : (whole : List Act) → Say all whole → (more : List Act) × Say rest more
-
-pub read_none : (lines : List (List ℕ)) → Read lines lines []
-read_none lines = record { on = λ more say. say; back = λ whole say. (whole, say) }
 
 say_tail : {line : List ℕ} {lines : List (List ℕ)} {acts : List Act} → Say (line ∷ lines) acts → (more : List Act) × Say lines more
 say_tail (Say.then e rest) = (_, rest)
@@ -43,3 +45,13 @@ pub read_all : (all : List (List ℕ)) (s : List ℕ) (acts : List Act) → leng
 unfolding cut
 read_all all [] acts e read = rw append-nil at (read.on [] Say.none)
 read_all all (b ∷ bs) acts e read = absurd (omega arith)
+
+-- and so the lines are refused as bad
+pub bad_line :
+    {A : Type 0} (r : Result A Unread) (lines : List (List ℕ)) (e : Refusal)
+    → IsErrAnd r (λ u. u ≡ Refused e)
+    → e ≡ BadLine
+    → NoActs lines
+    → IfErr r (WhyUnread lines)
+bad_line (Ok x) lines e is bad none = tt
+bad_line (Err u) lines e is bad none = rw is (bad, none)

@@ -1,13 +1,10 @@
 -- How the text of a day goes on.
-use Rattle.std.proofs.Common.{◌≡◌, ℕ, List, [], ◌∷◌, ◌++◌, length, Ok, Err, Result, sym, refl, ap, ◌∙◌, append_assoc, arith, rules, MatchResult}
+use Rattle.std.proofs.Common.{◌≡◌, ℕ, List, [], ◌∷◌, ◌++◌, length, sym, ap, ◌∙◌, append_assoc, arith}
 use Rattle.std.proofs.lemmas.List.{append-nil}
-use Rattle.refusal.specs.declared.Refusal.{Refusal}
 use Rattle.motion.specs.State.{State}
-use Rattle.daybook.specs.declared.opening.Opening.TheVariants.{Drawn, Refused}
 use Rattle.daybook.specs.Input.{cut}
-use Rattle.daybook.specs.Opening.{opened}
 use Rattle.daybook.specs.Answer.{answer_shown}
-use Rattle.daybook.specs.Day.{ended, Answers, OneMore, More, Following}
+use Rattle.daybook.specs.Day.{ended, Answers, OneMore, More}
 
 -- the first line's answer, and then those of the rest, are those of all
 pub more_first :
@@ -25,18 +22,3 @@ pub more_none : (s : List ℕ) (x : State) (text : List ℕ) → length s ≡ 0 
 unfolding cut
 more_none [] x text none = ([], Answers.none, sym (append-nil text))
 more_none (b ∷ bs) x text none = absurd (omega arith)
-
--- what follows the opening, where a siding was drawn up, and where none was
-module _ (lines : List (List ℕ)) (opening : List ℕ) where
-  pub following_drawn :
-      (r : Result State Refusal) (n wagons f : ℕ) (x : State) (P : Refusal → Type 0) (text : List ℕ)
-      → opened r ≡ Drawn n wagons f
-      → MatchResult r (λ y. x ≡ y) P
-      → More lines x opening text
-      → Following r lines opening text
-  following_drawn (Ok y) n wagons f x P text drawn stands more = rw (sym stands) more
-  following_drawn (Err e) n wagons f x P text drawn stands more = absurd (search rules)
-
-  pub following_refused : (r : Result State Refusal) (e : Refusal) → opened r ≡ Refused e → Following r lines opening opening
-  following_refused (Ok x) e refused = absurd (search rules)
-  following_refused (Err d) e refused = refl

@@ -1,5 +1,4 @@
 pub mod ActsRead
-pub mod Cuts
 pub mod Days
 pub mod Digits
 pub mod Lines

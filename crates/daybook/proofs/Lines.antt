@@ -1,45 +1,55 @@
--- The first of the lines that bytes are cut into.
-use Rattle.std.proofs.Common.{◌≡◌, ℕ, suc, ◌+◌, ◌<◌, ◌≤◌, Bool, true, false, eqb, List, [], ◌∷◌, length, get_or, take, drop, refl, ap, ◌∙◌, arith}
-use Rattle.std.proofs.lemmas.List.{at_drop_more, at_drop_all}
-use Rattle.std.proofs.lemmas.Bool.{eq-eqb, ne_eqb}
-use Rattle.daybook.specs.Input.{line_end, before_lines, cut, one_or_more, first_length}
+-- The lines that bytes are cut into, one after another.
+use Rattle.std.proofs.Common.{◌≡◌, ℕ, zero, suc, ◌+◌, ◌<◌, min, Bool, true, false, eqb, List, [], ◌∷◌, ◌++◌, length, length-append, Some, Option, MatchOption, ap, arith}
+use denote.Param.Members.{Mut}
+use denote.Ref.{Bor}
+use Rattle.std.specs.Fn.{Called, ComputesKey}
+use Rattle.std.specs.List.{IsFirstMatchOrLen}
+use Rattle.std.proofs.lemmas.Fn.{always_returns_same}
+use Rattle.std.proofs.lemmas.List.{nil_from_length}
+use Rattle.daybook.specs.Input.{line_end, before_lines, cut}
 
--- its length, byte by byte
-module _ (s : List ℕ) (i : ℕ) where
-  step : i < length s → first_length (drop i s) ≡ one_or_more (eqb (get_or s i 0) line_end) (first_length (drop (i + 1) s))
-  unfolding first_length
-  step within = at_drop_more first_length s i 0 within
+abbrev ends : ℕ → Bool
+ends b = eqb b line_end
 
-  pub ends_here : i < length s → get_or s i 0 ≡ line_end → first_length (drop i s) ≡ 1
-  ends_here within e = step within ∙ rw (eq-eqb (get_or s i 0) line_end e)
+-- what is cut off up to the first byte that ends a line, and with it, is the first line
+cut_first :
+    (s x t : List ℕ) (i : ℕ)
+    → 0 < length s
+    → s ≡ x ++ t
+    → length x ≡ min (i + 1) (length s)
+    → IsFirstMatchOrLen ends s i
+    → cut s ≡ x ∷ cut t
+unfolding cut
+cut_first [] x t i some whole len first = absurd (omega arith)
+cut_first (b ∷ bs) [] t i some whole len first = absurd (omega arith)
+cut_first (b ∷ bs) (c ∷ y) t zero some whole len first =
+    let end : ends b ≡ true = first.1 some 0 in
+    let none : y ≡ [] = nil_from_length y (omega arith) in
+    let same : b ≡ c = cc in
+    let rest : bs ≡ y ++ t = cc in
+    rw (end, same, rest, none)
+cut_first (b ∷ []) (c ∷ y) t (suc i) some whole len first =
+    let inside : ends b ≡ false = first.0 0 0 (omega arith) (omega arith) in
+    let same : b ≡ c = cc in
+    let none : y ≡ [] = nil_from_length y (omega arith) in
+    let left : t ≡ [] = nil_from_length t (omega (arith, simp length-append at (ap length whole))) in
+    rw (inside, same, none, left)
+cut_first (b ∷ d ∷ ds) (c ∷ y) t (suc i) some whole len first =
+    let inside : ends b ≡ false = first.0 0 0 (omega arith) (omega arith) in
+    let same : b ≡ c = cc in
+    let rest : d ∷ ds ≡ y ++ t = cc in
+    let more = cut_first (d ∷ ds) y t i (omega arith) rest (omega arith) (λ k e low high. first.0 (suc k) e (omega arith) (omega arith), λ within e. first.1 (omega arith) e) in
+    rw (inside, ← same) (ap (before_lines false b) more)
 
-  pub goes_on : i < length s → (get_or s i 0 ≡ line_end → ⊥) → first_length (drop i s) ≡ suc (first_length (drop (i + 1) s))
-  goes_on within ne = step within ∙ rw (ne_eqb (get_or s i 0) line_end ne)
-
-  pub none_left : length s ≤ i → first_length (drop i s) ≡ 0
-  unfolding first_length
-  none_left past = at_drop_all first_length s i past
-
-some_or_more : (t : Bool) (n : ℕ) → 0 < one_or_more t n
-some_or_more true n = omega arith
-some_or_more false n = omega arith
-
-pub first_some : (s : List ℕ) → 0 < length s → 0 < first_length s
-unfolding first_length
-first_some [] some = omega arith
-first_some (b ∷ bs) some = some_or_more (eqb b line_end) (first_length bs)
-
--- lines are the first n bytes of s, and then what the rest is cut into
-abbrev First : List (List ℕ) → ℕ → List ℕ → Type 0
-First lines n s = lines ≡ take n s ∷ cut (drop n s)
-
-first_before : (t : Bool) (b : ℕ) (bs : List ℕ) → (0 < length bs → First (cut bs) (first_length bs) bs) → First (before_lines t b (cut bs)) (one_or_more t (first_length bs)) (b ∷ bs)
-unfolding cut first_length
-first_before true b bs rest = refl
-first_before false b [] rest = refl
-first_before false b (c ∷ cs) rest = ap (before_lines false b) (rest (omega arith))
-
-pub cut_first : (s : List ℕ) → 0 < length s → First (cut s) (first_length s) s
-unfolding cut first_length
-cut_first [] some = absurd (omega arith)
-cut_first (b ∷ bs) some = first_before (eqb b line_end) b bs (cut_first bs)
+-- so each step of `split_inclusive` takes off the first line
+pub next_line :
+    {F : Type 0} {g : Mut F (Bor ℕ × Unit {0}) Bool} (P : Type 0) (f h : F) (s t : List ℕ) (r : Option (Bor (List ℕ))) (x : Bor (List ℕ))
+    → r ≡ Some x
+    → MatchOption r P (λ x. (s ≡ x.now ++ t)
+    × ((i : ℕ) × (length x.now ≡ min (i + 1) (length s)) × ((p : ℕ → Bool) → ComputesKey g p f → ComputesKey g p h × IsFirstMatchOrLen p s i)) × (0 < length s))
+    → ((a : Bor ℕ × Unit {0}) (e : Bool) (k : F) → Called g f a e k → (e ≡ ends a.0.now) × (k ≡ f))
+    → cut s ≡ x.now ∷ cut t
+next_line {g = g} P f h s t r x is steps computes =
+    let step = rw is at steps in
+    let key : ComputesKey g ends f = always_returns_same g (λ a e. e ≡ ends a.0.now) f computes in
+    cut_first s x.now t step.1.0 step.2 step.0 step.1.1 (step.1.2 ends key).1

@@ -8,11 +8,11 @@ use Rattle.std.proofs.lemmas.Bool.{ltb-false, leb-true, eqb-true, eqb-false, le-
 use Rattle.daybook.specs.Line.{digits_from, number_from, number_of, digit_worth, with_digit, byte_of, largest, blank}
 
 -- the number that digits make after n
-abbrev made_of : ℕ → List ℕ → ℕ
+abbrev pub made_of : ℕ → List ℕ → ℕ
 made_of n [] = n
 made_of n (d ∷ ds) = made_of (with_digit n d) ds
 
-own : IsNumeralModel (λ ds. all_ascii_digits ds ≡ true) (made_of 0)
+pub own : IsNumeralModel (λ ds. all_ascii_digits ds ≡ true) (made_of 0)
 own = numerals_by_fold _ (search rules) made_of (search rules)
 
 -- so the first digit makes a number, and the others go on from it
@@ -26,7 +26,7 @@ grows n (d ∷ ds) = let h = grows (with_digit n d) ds in omega arith
 
 -- a number is read up to the first byte that is no digit
 module _ (e : ℕ) (rest : List ℕ) (other : is_ascii_digit e ≡ false) where
-  digits_read :
+  pub digits_read :
       (n : ℕ) (ds : List ℕ)
       → all_ascii_digits ds ≡ true
       → made_of n ds ≤ largest

@@ -15,12 +15,12 @@ ended text = text ++ line_end ∷ []
 -- the answers of lines, each on the siding that those before it left
 pub data Answers : List (List ℕ) → State → List ℕ → Type 0 where
   none : {x : State} → Answers [] x []
-  then : {line : List ℕ} {lines : List (List ℕ)} {x y : State} {rest : List ℕ} (a : Answer) → Answered (line_of line) x y a
+  then : {line : List ℕ} {lines : List (List ℕ)} {x y : State} {rest : List ℕ} (a : Result Answer Refusal) → Answered (line_of line) x y a
       → Answers lines y rest → Answers (line ∷ lines) x (ended (answer_shown a) ++ rest)
 
 -- a line's answer was written after a text
 abbrev pub OneMore : List ℕ → State → State → List ℕ → List ℕ → Type 0
-OneMore line x y before after = (a : Answer) × Answered (line_of line) x y a × (after ≡ before ++ ended (answer_shown a))
+OneMore line x y before after = (a : Result Answer Refusal) × Answered (line_of line) x y a × (after ≡ before ++ ended (answer_shown a))
 
 -- the answers of lines were written after a text
 abbrev pub More : List (List ℕ) → State → List ℕ → List ℕ → Type 0

@@ -1,5 +1,5 @@
 -- A day's input: a siding's sheet and, directly after it, lines.
-use Rattle.std.specs.Prelude.{ℕ, suc, Bool, true, false, List, [], ◌∷◌, take, drop, ◌==◌}
+use Rattle.std.specs.Prelude.{ℕ, Bool, true, false, List, [], ◌∷◌, take, drop, ◌==◌}
 use Rattle.siding.specs.Sheet.{sections_of, sheet_size}
 
 -- the most bytes that an input may have
@@ -31,13 +31,3 @@ cut (b ∷ bs) = before_lines (b == line_end) b (cut bs)
 
 abbrev pub lines_of : List ℕ → List (List ℕ)
 lines_of input = cut (after_sheet input)
-
--- a line's length by its first byte: 1 where that ends it, else one more than the length n from the next byte on
-abbrev pub one_or_more : Bool → ℕ → ℕ
-one_or_more true n = 1
-one_or_more false n = suc n
-
--- how many bytes the first line has
-unfoldable pub first_length : List ℕ → ℕ
-first_length [] = 0
-first_length (b ∷ bs) = one_or_more (b == line_end) (first_length bs)

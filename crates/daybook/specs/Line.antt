@@ -1,5 +1,5 @@
 -- A line: how each act is written, and the act that a line says.
-use Rattle.std.specs.Prelude.{◌≡◌, ℕ, ◌+◌, ◌-◌, ◌*◌, ◌≤◌, Bool, cond, ◌&&◌, List, [], ◌∷◌, ◌++◌, length, Some, None, codes, decimal, Option, ◌==◌, ◌≢◌, nat_lt, slice_index}
+use Rattle.std.specs.Prelude.{◌≡◌, ℕ, ◌+◌, ◌-◌, ◌*◌, ◌≤◌, Bool, if◌then◌else◌, ◌&&◌, List, [], ◌∷◌, ◌++◌, length, Some, None, codes, decimal, Option, ◌==◌, ◌≢◌, nat_lt, slice_index}
 use Prim.Native.String.{String}
 use Rattle.std.specs.Option.{option_map}
 use Rattle.std.specs.Bool.{then_some}
@@ -53,11 +53,11 @@ with_digit n d = 10 * n + digit_worth d
 unfoldable pub digits_from : ℕ → List ℕ → Option (ℕ × List ℕ)
 digits_from n [] = None
 digits_from n (b ∷ bs) =
-    cond (is_ascii_digit b) (cond (nat_lt largest (with_digit n b)) None (digits_from (with_digit n b) bs)) (Some (n, b ∷ bs))
+    if is_ascii_digit b then (if nat_lt largest (with_digit n b) then None else digits_from (with_digit n b) bs) else Some (n, b ∷ bs)
 
 -- the number that begins with this digit, and what follows it; after a 0 it has no more digits
 abbrev pub number_from : ℕ → List ℕ → Option (ℕ × List ℕ)
-number_from d rest = cond (d == (byte_of "0")) (Some (0, rest)) (cond (is_ascii_digit d) (digits_from (digit_worth d) rest) None)
+number_from d rest = if d == byte_of "0" then Some (0, rest) else (if is_ascii_digit d then digits_from (digit_worth d) rest else None)
 
 abbrev pub blank : ℕ
 blank = byte_of " "
@@ -66,7 +66,7 @@ blank = byte_of " "
 abbrev pub number_of : List ℕ → Option (ℕ × List ℕ)
 number_of [] = None
 number_of (b ∷ []) = None
-number_of (b ∷ d ∷ rest) = cond (b == blank) (number_from d rest) None
+number_of (b ∷ d ∷ rest) = if b == blank then number_from d rest else None
 
 -- nothing but the end of the line
 abbrev pub at_end : List ℕ → Bool
@@ -91,13 +91,13 @@ move_of rest = two_sections (number_of rest)
 -- the act of a letter and what follows it
 abbrev pub act_of : ℕ → List ℕ → Option Act
 act_of letter rest =
-    cond (letter == (byte_of "p")) (option_map (λ s. Called (Put s)) (section_of rest))
-    (cond (letter == (byte_of "t")) (option_map (λ s. Called (Take s)) (section_of rest))
-    (cond (letter == (byte_of "b")) (option_map (λ s. Called (Mark s)) (section_of rest))
-    (cond (letter == (byte_of "u")) (option_map (λ s. Called (Unmark s)) (section_of rest))
-    (cond (letter == (byte_of "m")) (option_map (λ m. Called (Hand m)) (move_of rest))
-    (cond (letter == (byte_of "n")) (then_some (at_end rest) (Called Turn))
-    (cond (letter == (byte_of "s")) (then_some (at_end rest) Step) None))))))
+    if letter == byte_of "p" then option_map (λ s. Called (Put s)) (section_of rest)
+    else (if letter == byte_of "t" then option_map (λ s. Called (Take s)) (section_of rest)
+    else (if letter == byte_of "b" then option_map (λ s. Called (Mark s)) (section_of rest)
+    else (if letter == byte_of "u" then option_map (λ s. Called (Unmark s)) (section_of rest)
+    else (if letter == byte_of "m" then option_map (λ m. Called (Hand m)) (move_of rest)
+    else (if letter == byte_of "n" then then_some (at_end rest) (Called Turn)
+    else (if letter == byte_of "s" then then_some (at_end rest) Step else None))))))
 
 -- the act that a line says
 abbrev pub line_of : List ℕ → Option Act

@@ -5,8 +5,8 @@ ghost use Rattle.siding.specs.Stands.{state_of};
 ghost use Rattle.daybook.specs.Day.{OneMore, More, Day};
 
 use crate::answer::answer_to;
-use crate::input::{first_length, parted};
-use crate::opening::{Opening, open};
+use crate::input::{LINE_END, parted};
+use crate::opening::open;
 use siding::Siding;
 use std::alloc::{AllocError, Global};
 
@@ -15,35 +15,36 @@ pub fn day(heap: Global, input: &[u8]) -> Result<String, AllocError>
     ensures { IfOk result (λ text. Day input.now (string_bytes text)) }
 {
     let mut siding = Siding::bare();
-    let opening = open(&mut siding, input);
-    let mut text = format!(in heap; "{opening}\n")?;
-    if let Opening::Drawn { .. } = opening {
-        let (_, lines) = parted(input);
-        answer_lines(&mut text, &mut siding, lines)?;
+    match open(&mut siding, input) {
+        Ok(drawn) => {
+            let mut text = format!(in heap; "{drawn}\n")?;
+            let (_, lines) = parted(input);
+            answer_lines(&mut text, &mut siding, lines)?;
+            Ok(text)
+        }
+        Err(refusal) => format!(in heap; "no {refusal}\n"),
     }
-    Ok(text)
 }
 
 // Appends the answer of each line.
 fn answer_lines(text: &mut String, siding: &mut Siding, lines: &[u8]) -> Result<(), AllocError>
     ensures { OnOk result (More (cut lines.now) (state_of siding.old) (string_bytes text.old) (string_bytes text.new)) }
 {
-    let mut rest = lines;
-    while !rest.is_empty() {
-        let (line, after) = rest.split_at(first_length(rest));
+    for line in lines.split_inclusive(|b| *b == LINE_END) {
         answer_line(text, siding, line)?;
-        rest = after;
     }
     Ok(())
 }
 
-// Appends the answer of one line.
+// Appends the answer of one line; a refusal goes without its place here.
 fn answer_line(text: &mut String, siding: &mut Siding, line: &[u8]) -> Result<(), AllocError>
     ensures { OnOk result (OneMore line.now (state_of siding.old) (state_of siding.new) (string_bytes text.old) (string_bytes text.new)) }
 {
-    let answer = answer_to(siding, line);
-    match writeln!(text, "{answer}") {
-        Ok(()) => Ok(()),
-        Err(_) => Err(AllocError),
+    match answer_to(siding, line) {
+        Ok(answer) => writeln!(text, "{answer}"),
+        Err(refusal) => {
+            let number = refusal.number();
+            writeln!(text, "no {number}")
+        }
     }
 }

@@ -1,5 +1,7 @@
 // A line, read as the act that it says.
-ghost use Rattle.std.specs.Prelude.{◌≡◌, Some, None, MatchOption};
+ghost use Rattle.std.specs.Prelude.{◌≡◌, ◌<◌, not, length, Some, None, IsTrue, IfSome, MatchOption, slice_index};
+ghost use Rattle.std.specs.Char.{is_ascii_digit};
+ghost use Rattle.std.specs.List.{position};
 ghost use Rattle.daybook.specs.Line.{Says, line_of, act_of, move_of, section_of, at_end, number_of, digits_from};
 
 use crate::input::LINE_END;
@@ -7,9 +9,6 @@ use motion::calls::{Act, Call};
 use motion::moves::Move;
 
 const BLANK: u8 = b' ';
-
-// The largest number that a line may have.
-const LARGEST: u32 = 65_535;
 
 // The act that a line says, if it says one.
 pub fn read_line(line: &[u8]) -> Option<Act>
@@ -24,7 +23,7 @@ pub fn read_line(line: &[u8]) -> Option<Act>
 fn read_act(letter: u8, rest: &[u8]) -> Option<Act>
     ensures { result ≡ act_of letter rest.now }
 {
-    match letter as char {
+    match char::from(letter) {
         'p' => Some(Act::Call(Call::Put(read_section(rest)?))),
         't' => Some(Act::Call(Call::Take(read_section(rest)?))),
         'b' => Some(Act::Call(Call::Mark(read_section(rest)?))),
@@ -50,44 +49,43 @@ fn read_section(rest: &[u8]) -> Option<u16>
     ensures { result ≡ section_of rest.now }
 {
     let (section, rest) = read_number(rest)?;
-    if is_end(rest) { Some(section) } else { None }
+    is_end(rest).then_some(section)
 }
 
 fn is_end(rest: &[u8]) -> bool
     ensures { result ≡ at_end rest.now }
 {
-    rest.len() == 1 && rest[0] == LINE_END
+    matches!(rest, [LINE_END])
 }
 
-// A blank and a number, and what follows them.
+// A blank and a number, and what follows them; after a 0 it has no more digits.
 fn read_number(rest: &[u8]) -> Option<(u16, &[u8])>
     ensures { MatchOption result (number_of rest.now ≡ None) (λ p. number_of rest.now ≡ Some (p.0, p.1.now)) }
 {
-    let (blank, digits) = rest.split_first()?;
-    let (first, after) = digits.split_first()?;
-    if *blank != BLANK {
+    let [BLANK, rest @ ..] = rest else {
         return None;
-    }
-    match *first {
-        b'0' => Some((0, after)),
-        b'1'..=b'9' => read_digits(*first - b'0', after),
+    };
+    match rest {
+        [b'0', after @ ..] => Some((0, after)),
+        [b'1'..=b'9', ..] => read_digits(rest),
         _ => None,
     }
 }
 
-// The number that digits make after a first one, and what follows them.
-fn read_digits(first: u8, digits: &[u8]) -> Option<(u16, &[u8])>
-    ensures { MatchOption result (digits_from first digits.now ≡ None) (λ p. digits_from first digits.now ≡ Some (p.0, p.1.now)) }
+// The number that the digits at the start make, and what follows them.
+fn read_digits(rest: &[u8]) -> Option<(u16, &[u8])>
+    requires { IsTrue (is_ascii_digit (slice_index rest.now 0)) }
+    ensures { MatchOption result (digits_from 0 rest.now ≡ None) (λ p. digits_from 0 rest.now ≡ Some (p.0, p.1.now)) }
 {
-    let mut value = u32::from(first);
-    for (n, b) in digits.iter().enumerate() {
-        if !b.is_ascii_digit() {
-            return Some((value as u16, &digits[n..]));
-        }
-        value = 10 * value + u32::from(*b - b'0');
-        if value > LARGEST {
-            return None;
-        }
-    }
-    None
+    let (digits, after) = rest.split_at(digits_end(rest)?);
+    let number = str::from_utf8(digits).ok()?.parse().ok()?;
+    Some((number, after))
+}
+
+// Where the digits at the start end, if they do.
+fn digits_end(rest: &[u8]) -> Option<usize>
+    ensures place { result ≡ position (λ b. not (is_ascii_digit b)) rest.now }
+    ensures within { IfSome result (λ end. end < length rest.now) }
+{
+    rest.iter().position(|b| !b.is_ascii_digit())
 }

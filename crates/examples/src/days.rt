@@ -1,5 +1,9 @@
-// What the day program answers.
+// What the day program answers, and the acts that lines say.
+use daybook::acts::{Unread, read_acts};
 use daybook::day::day;
+use motion::calls::{Act, Call};
+use motion::moves::Move;
+use refusal::Refusal;
 use std::alloc::Global;
 use std::test::Fail;
 
@@ -151,20 +155,18 @@ fn answers(rt: HostRuntime) -> Result<(), Fail> {
     Ok(())
 }
 
-// So many zero bytes, but for the first.
-fn zeros_after(heap: Global, first: u8, count: usize) -> Result<Vec<u8>, Fail> {
+// So many bytes, 0 but for the first.
+fn zeros_after(heap: Global, first: u8, len: usize) -> Result<Vec<u8>, Fail> {
     let mut bytes = Vec::new(heap);
     bytes.push(first)?;
-    for _ in 0..count {
-        bytes.push(0)?;
-    }
+    bytes.resize(len, 0)?;
     Ok(bytes)
 }
 
 // 512 sections that hang on the neck, and one more.
 #[test]
 fn most_sections(rt: HostRuntime) -> Result<(), Fail> {
-    let mut bytes = zeros_after(rt.alloc(), 2, 4 + 3 * 512 - 1)?;
+    let mut bytes = zeros_after(rt.alloc(), 2, 4 + 3 * 512)?;
     assert_eq!(rt; day(rt.alloc(), bytes.as_slice())?.as_str(), "512 0 0\n");
     assert!(rt; bytes.len() > 1);
     bytes[1] = 1;
@@ -175,9 +177,34 @@ fn most_sections(rt: HostRuntime) -> Result<(), Fail> {
 // The longest input, and one byte more; its sheet has no sections.
 #[test]
 fn longest_input(rt: HostRuntime) -> Result<(), Fail> {
-    let mut bytes = zeros_after(rt.alloc(), 0, 65_535)?;
+    let mut bytes = zeros_after(rt.alloc(), 0, 65_536)?;
     assert_eq!(rt; day(rt.alloc(), bytes.as_slice())?.as_str(), "no 2 0\n");
     bytes.push(0)?;
     assert_eq!(rt; day(rt.alloc(), bytes.as_slice())?.as_str(), "no 12 0\n");
+    Ok(())
+}
+
+// The act of each line, in their order.
+#[test]
+fn acts_of_lines(rt: HostRuntime) -> Result<(), Fail> {
+    let said = [
+        Act::Call(Call::Hand(Move { from: 3, to: 1 })),
+        Act::Call(Call::Hand(Move { from: 1, to: 3 })),
+        Act::Step,
+    ];
+    let acts = read_acts(rt.alloc(), b"m 3 1\nm 1 3\ns\n")?;
+    assert_eq!(rt; acts.as_slice(), said.as_slice());
+    let none = read_acts(rt.alloc(), b"")?;
+    assert!(rt; none.is_empty());
+    Ok(())
+}
+
+// A line that says no act: the first, one between others, and one without its end.
+#[test]
+fn acts_of_a_bad_line(rt: HostRuntime) -> Result<(), Fail> {
+    let bad = Some(Unread::Refused(Refusal::BadLine));
+    assert_eq!(rt; read_acts(rt.alloc(), b"\ns\n").err(), bad);
+    assert_eq!(rt; read_acts(rt.alloc(), b"s\nm 3\ns\n").err(), bad);
+    assert_eq!(rt; read_acts(rt.alloc(), b"s\nn").err(), bad);
     Ok(())
 }

@@ -98,3 +98,12 @@ fn numbers_and_places(rt: HostRuntime) {
         assert_eq!(rt; row.refusal.place(), row.place);
     }
 }
+
+#[test]
+fn another_place(rt: HostRuntime) {
+    assert_eq!(rt;
+        Refusal::NotNeighbours(3).at(70_000),
+        Refusal::NotNeighbours(70_000)
+    );
+    assert_eq!(rt; Refusal::PageFull.at(7), Refusal::PageFull);
+}

@@ -267,12 +267,8 @@ fn line_sheet(heap: Global, sections: u16, wagons: u16) -> Result<Vec<u8>, Fail>
 #[test]
 fn longest_line(rt: HostRuntime) -> Result<(), Fail> {
     let mut sheet = line_sheet(rt.alloc(), 512, 256)?;
-    for _ in 0..256 {
-        sheet.push(1)?;
-    }
-    for _ in 0..256 {
-        sheet.push(2)?;
-    }
+    sheet.extend_from_slice(&[1; 256])?;
+    sheet.extend_from_slice(&[2; 256])?;
     let mut siding = Siding::bare();
     siding.draw_up(sheet.as_slice())?;
     assert_eq!(rt; siding.figure(), 65_536);

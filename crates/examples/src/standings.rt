@@ -2,6 +2,7 @@
 use refusal::Refusal;
 use standing::number::{Numbered, number};
 use standing::standings::{standings, write_standing};
+use std::array;
 use std::test::Fail;
 
 // C(1, 1) + C(2, 2)
@@ -75,16 +76,7 @@ fn two_wagons_of_4_sections(rt: HostRuntime) -> Result<(), Fail> {
 
 // The lowest eight bits of a number, the first of them for section 0.
 fn eight(bits: u16) -> [u8; 8] {
-    [
-        (bits & 1) as u8,
-        (bits >> 1 & 1) as u8,
-        (bits >> 2 & 1) as u8,
-        (bits >> 3 & 1) as u8,
-        (bits >> 4 & 1) as u8,
-        (bits >> 5 & 1) as u8,
-        (bits >> 6 & 1) as u8,
-        (bits >> 7 & 1) as u8,
-    ]
+    array::from_fn(|place| u8::from(bits >> place & 1 == 1))
 }
 
 #[test]

@@ -25,7 +25,7 @@ module _ {S : Type 0} (rule : Rule S) (laws : Laws rule) (x : Siding) (before af
   best quote q =
       let charge = quote_least rule x laws (Ok quote) q in
       let of = charge.1 in
-      let steps = one_stepping x.sections x.inner x.wagons x.berths of.moves_due plan.moves of.due.0 plan.due.0 (sound x).tree of.due.1 plan.due.1 in
+      let steps = one_stepping x.track.sections x.track.inner x.wagons.in_section x.berths.in_section of.moves_due plan.moves of.due.0 plan.due.0 (sound x).tree of.due.1 plan.due.1 in
       let same : of.moves_due ≡ held after = steps.0 ∙ sym held_due in
       let fills : FillsFrom (state_of x) (held after) = subst (FillsFrom (state_of x)) same of.fills in
       let long = ap length held_due ∙ plan.count in

@@ -1,3 +1,7 @@
+pub mod Ranges
+pub mod Sought
+pub mod Faults
+pub mod Begins
 pub mod Asks
 pub mod Searches
 pub mod Carries
@@ -8,5 +12,4 @@ pub mod Rows
 pub mod DueWritten
 pub mod Entries
 pub mod Exact
-pub mod Verdicts
 pub mod Best

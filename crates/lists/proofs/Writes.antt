@@ -3,7 +3,7 @@ use Rattle.std.proofs.Common.{◌≡◌, ℕ, suc, ◌+◌, ◌≤◌, List, [],
 use Rattle.std.proofs.lemmas.List.{append_assoc, length-append, length-set, take-append-drop, take_more_set, drop-set-lt}
 use Rattle.motion.specs.declared.moves.Move.{Move}
 use Rattle.siding.specs.declared.siding.Siding.{Siding}
-use Rattle.lists.specs.declared.list.List.{List as Slots}
+use Rattle.lists.specs.declared.book.Book.{Book}
 use Rattle.lists.specs.Writing.{Writer, entries, writer_after, slots_after, Wrote}
 use Rattle.lists.specs.Balanced.{Made, figure_at, HasRoom}
 
@@ -42,29 +42,31 @@ module _ {W E : Type 0} (writer : Writer W E) where
       ∙ append_assoc (take len slots) (x ∷ []) (rest ++ drop (len + 1 + length ms) (set slots len x))
       ∙ ap (λ l. take len slots ++ (x ∷ (rest ++ l))) (drop-set-lt (len + 1 + length ms) slots len x (omega arith) ∙ ap (λ k. drop k slots) e)
 
-  pub wrote_none : (w : W) (l : Slots E) → Wrote writer w l [] w l
-  wrote_none w l = record { len = omega arith; slots = refl; next = refl }
+  pub wrote_none : (b : Book W E) → Wrote writer b [] b
+  wrote_none b = record { len = omega arith; slots = refl; next = refl; list = refl; slice = refl }
 
-  pub wrote_both : {w w' w'' : W} {l l' l'' : Slots E} (ms ns : List Move) → Wrote writer w l ms w' l' → Wrote writer w' l' ns w'' l'' → Wrote writer w l (ms ++ ns) w'' l''
-  wrote_both {w} {w'} {w''} {l} {l'} {l''} ms ns a b = record {
-    len = omega (arith, a.len, b.len, length-append ms ns);
-    slots = b.slots
-        ∙ ap (λ v. slots_after writer v l'.len l'.slots.now ns) a.next
-        ∙ ap (λ k. slots_after writer (writer_after writer w ms) k l'.slots.now ns) a.len
-        ∙ ap (λ s. slots_after writer (writer_after writer w ms) (l.len + length ms) s ns) a.slots
-        ∙ sym (slots_after_append w l.len l.slots.now ms ns);
-    next = b.next ∙ ap (λ v. writer_after writer v ns) a.next ∙ sym (writer_after_append w ms ns);
+  pub wrote_both : {b b' b'' : Book W E} (ms ns : List Move) → Wrote writer b ms b' → Wrote writer b' ns b'' → Wrote writer b (ms ++ ns) b''
+  wrote_both {b} {b'} {b''} ms ns p q = record {
+    len = omega (arith, p.len, q.len, length-append ms ns);
+    slots = q.slots
+        ∙ ap (λ v. slots_after writer v b'.list.now.len b'.list.now.slots.now ns) p.next
+        ∙ ap (λ k. slots_after writer (writer_after writer b.writer.now ms) k b'.list.now.slots.now ns) p.len
+        ∙ ap (λ s. slots_after writer (writer_after writer b.writer.now ms) (b.list.now.len + length ms) s ns) p.slots
+        ∙ sym (slots_after_append b.writer.now b.list.now.len b.list.now.slots.now ms ns);
+    next = q.next ∙ ap (λ v. writer_after writer v ns) p.next ∙ sym (writer_after_append b.writer.now ms ns);
+    list = q.list ∙ p.list;
+    slice = q.slice ∙ p.slice;
   }
 
-  wrote_long : {w w' : W} {l l' : Slots E} {ms : List Move} → Wrote writer w l ms w' l' → length l'.slots.now ≡ length l.slots.now
-  wrote_long {w} {l = l} {ms = ms} a = ap length a.slots ∙ length_slots_after w l.len l.slots.now ms
+  wrote_long : {b b' : Book W E} {ms : List Move} → Wrote writer b ms b' → length b'.list.now.slots.now ≡ length b.list.now.slots.now
+  wrote_long {b} {ms = ms} a = ap length a.slots ∙ length_slots_after b.writer.now b.list.now.len b.list.now.slots.now ms
 
   -- moves were made, and then others
-  pub made_both : {P Q R : List Move → List ℕ → Type 0} {w w' w'' : W} {l l' l'' : Slots E} {wagons wagons' : List ℕ}
-      → (a : Made writer P w l wagons w' l') → (b : Made writer Q w' l' wagons' w'' l'') → R (a.moves ++ b.moves) wagons' → Made writer R w l wagons' w'' l''
-  made_both a b does = record { moves = a.moves ++ b.moves; does = does; wrote = wrote_both a.moves b.moves a.wrote b.wrote }
+  pub made_both : {P Q R : List Move → List ℕ → Type 0} {b b' b'' : Book W E} {wagons wagons' : List ℕ}
+      → (p : Made writer P b wagons b') → (q : Made writer Q b' wagons' b'') → R (p.moves ++ q.moves) wagons' → Made writer R b wagons' b''
+  made_both p q does = record { moves = p.moves ++ q.moves; does = does; wrote = wrote_both p.moves q.moves p.wrote q.wrote }
 
   -- moves that lower the figure by as many as they are leave room for the rest
-  pub room_left : (x : Siding) {Does : List Move → List ℕ → Type 0} {w w' : W} {l l' : Slots E} (wagons then : List ℕ)
-      → (made : Made writer Does w l then w' l') → figure_at x then + length made.moves ≡ figure_at x wagons → HasRoom x wagons l → HasRoom x then l'
+  pub room_left : (x : Siding) {Does : List Move → List ℕ → Type 0} {b b' : Book W E} (wagons then : List ℕ)
+      → (made : Made writer Does b then b') → figure_at x then + length made.moves ≡ figure_at x wagons → HasRoom x wagons b → HasRoom x then b'
   room_left x wagons then made fell room = omega (arith, made.wrote.len, wrote_long made.wrote)

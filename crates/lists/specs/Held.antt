@@ -8,6 +8,10 @@ use Rattle.lists.specs.declared.list.List.{List as Slots}
 abbrev pub held : {X : Type 0} → Slots X → List X
 held l = take l.len l.slots.now
 
+-- a list fills the slice that it filled before
+abbrev pub SameSlice : {X : Type 0} → Slots X → Slots X → Type 0
+SameSlice before after = after.slots.ghost_name ≡ before.slots.ghost_name
+
 -- the first free slot has the entry, and all others are as they were; or there is none, and nothing has changed
 abbrev pub Added : {X U : Type 0} → X → Slots X → Slots X → Result U Refusal → Type 0
 Added x before after (Ok u) =

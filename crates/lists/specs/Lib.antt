@@ -1,5 +1,6 @@
 pub mod Held
 pub mod Writing
+pub mod Cursors
 pub mod Planner
 pub mod Balanced
 pub mod Plan

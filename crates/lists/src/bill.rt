@@ -1,6 +1,6 @@
 // The bill: what the moves due come to, move by move.
-ghost use Rattle.std.specs.Prelude.{◌≡◌};
 ghost use Rattle.siding.specs.Stands.{state_of};
+ghost use Rattle.lists.specs.Held.{SameSlice};
 ghost use Rattle.lists.specs.Bill.{Billed, BillEndsInTheQuote};
 
 use crate::filling::write_due;
@@ -18,7 +18,7 @@ pub fn bill<F: Tariff>(
 ) -> Result<usize, Refusal>
     ensures billed { Billed (F.Tariff.rule tariff.now) (state_of siding.now) list.old list.new result }
     ensures ends { BillEndsInTheQuote (F.Tariff.rule tariff.now) (state_of siding.now) list.new result }
-    ensures lender { list.new.slots.ghost_name ≡ list.old.slots.ghost_name }
+    ensures slice { SameSlice list.old list.new }
 {
     let mut writer = Running {
         tariff,

@@ -2,9 +2,11 @@
 #![tactic(auto)]
 
 pub mod bill;
+mod book;
 pub mod check;
 mod filling;
 pub mod list;
+mod moving;
 pub mod offer;
 pub mod plan;
 mod planner;

@@ -1,6 +1,6 @@
 // The plan beside its quote.
-ghost use Rattle.std.specs.Prelude.{◌≡◌};
 ghost use Rattle.siding.specs.Stands.{state_of};
+ghost use Rattle.lists.specs.Held.{SameSlice};
 ghost use Rattle.lists.specs.Offers.{Offered};
 
 use crate::list::List;
@@ -25,7 +25,7 @@ pub fn make_offer<F: Tariff>(
     list: &mut List<Move>,
 ) -> Result<Offer<F::Sum>, Refusal>
     ensures offered { Offered (F.Tariff.rule tariff.now) (state_of siding.now) list.old list.new result }
-    ensures lender { list.new.slots.ghost_name ≡ list.old.slots.ghost_name }
+    ensures slice { SameSlice list.old list.new }
 {
     let moves = plan(siding, list)?;
     let quote = quote(siding, tariff)?;

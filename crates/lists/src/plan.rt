@@ -1,6 +1,6 @@
 // The plan: the moves due, in their order.
-ghost use Rattle.std.specs.Prelude.{◌≡◌};
 ghost use Rattle.siding.specs.Stands.{state_of};
+ghost use Rattle.lists.specs.Held.{SameSlice};
 ghost use Rattle.lists.specs.Plan.{Planned};
 
 use crate::filling::write_due;
@@ -15,7 +15,7 @@ use siding::Siding;
 // as much as there are sections and moves.
 pub fn plan(siding: &Siding, list: &mut List<Move>) -> Result<usize, Refusal>
     ensures planned { Planned (state_of siding.now) list.old list.new result }
-    ensures lender { list.new.slots.ghost_name ≡ list.old.slots.ghost_name }
+    ensures slice { SameSlice list.old list.new }
 {
     let mut writer = Moves;
     write_due(siding, &mut writer, list)

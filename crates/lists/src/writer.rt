@@ -7,6 +7,8 @@ use motion::moves::Move;
 pub(crate) mod moves;
 pub(crate) mod running;
 
+// A trait and no closure: the ghost member says in one word what a writer is after each move, where a contract on a
+// closure that adds to a captured sum could only follow its calls one by one.
 pub(crate) trait EachMove {
     type Entry: Copy;
 

@@ -1,5 +1,5 @@
 -- A move is due exactly while some section is unsettled; it is legal, and lowers the figure by one.
-use Rattle.std.proofs.Common.{◌≡◌, ℕ, zero, suc, ◌+◌, ◌<◌, ◌≤◌, ◌⊎◌, List, get_or, pos, refl, inl, inr, arith}
+use Rattle.std.proofs.Common.{◌≡◌, ℕ, zero, suc, ◌+◌, ◌<◌, ◌≤◌, ◌⊎◌, List, get_or, pos, refl, inl, inr, arith, rules}
 use Rattle.std.proofs.lemmas.Bool.{cases_eq}
 use Rattle.motion.specs.declared.moves.Move.{Move}
 use Rattle.motion.specs.Tree.{Tree, Branch, Below}
@@ -29,7 +29,7 @@ record FirstOf (n : ℕ) (inner wagons berths : List ℕ) (k u : ℕ) : Type 0 w
   none_before : (t : ℕ) → t < k → Before n inner t u → Unsettled n inner wagons berths t → ⊥
 
 first_among : (n : ℕ) (inner wagons berths : List ℕ) → Tree n inner → (u : ℕ) → u < n → Unsettled n inner wagons berths u → (k : ℕ) → k ≤ n → (v : ℕ) × FirstOf n inner wagons berths k v
-first_among n inner wagons berths tree u l un zero le = (u, record { within = l; unsettled = un; none_before = λ t p. omega arith })
+first_among n inner wagons berths tree u l un zero le = grind arith
 first_among n inner wagons berths tree u l un (suc k) le =
     let f = first_among n inner wagons berths tree u l un k (omega arith) in
     let v : ℕ = f.0 in
@@ -60,9 +60,7 @@ first_among n inner wagons berths tree u l un (suc k) le =
 
 -- where some section is unsettled, one is the first
 first_unsettled : (n : ℕ) (inner wagons berths : List ℕ) → Tree n inner → (u : ℕ) → u < n → Unsettled n inner wagons berths u → (v : ℕ) × FirstUnsettled n inner wagons berths v
-first_unsettled n inner wagons berths tree u l un =
-    let f = first_among n inner wagons berths tree u l un n (omega arith) in
-    (f.0, record { within = f.1.within; unsettled = f.1.unsettled; none_before = f.1.none_before })
+first_unsettled n inner wagons berths tree u l un = grind (arith, first_among n inner wagons berths tree u l un n (omega arith))
 
 -- it has no demand itself: it is the neck, or its inner neighbour comes before it, and is settled
 pub first_zero : (n : ℕ) (inner wagons berths : List ℕ) → Even n inner wagons berths → (u : ℕ) → u < n
@@ -75,7 +73,7 @@ first_zero n inner wagons berths even (suc u) l none =
 
 -- the first move of a section whose lowest branch that asks is v
 first_move : (way : Way) (n : ℕ) (inner wagons berths : List ℕ) → Even n inner wagons berths → (k u v : ℕ) → n ≤ v + k → LowestAsking way n inner wagons berths u v → (m : Move) × FirstMove way n inner wagons berths u m
-first_move way n inner wagons berths even zero u v le low = let z : ⊥ = omega (arith, low.branch.within) in absurd z
+first_move way n inner wagons berths even zero u v le low = absurd (omega (arith, low.branch.within))
 first_move way n inner wagons berths even (suc k) u v le low =
     elim (ready_or_open way wagons v) [
       | inl ready ↦
@@ -98,7 +96,7 @@ some_due n inner wagons berths even u l un =
 
 -- and none is due where all are settled
 pub none_due : {n : ℕ} {inner wagons berths : List ℕ} {m : Move} → AllSettled n inner wagons berths → Due n inner wagons berths m → ⊥
-none_due settled due = settled due.section due.first.within due.first.unsettled
+none_due settled due = search rules
 
 pub due_while_unsettled :
     (n : ℕ) (inner wagons berths : List ℕ) → Even n inner wagons berths
@@ -114,4 +112,4 @@ due_does n inner wagons berths m even due = first_does due.way n inner wagons be
 pub due_is_legal :
     (n : ℕ) (inner wagons berths : List ℕ) (m : Move) → Even n inner wagons berths → Due n inner wagons berths m
     → Legal n inner wagons m × (figure_of n inner (moved wagons m) berths + 1 ≡ figure_of n inner wagons berths)
-due_is_legal n inner wagons berths m even due = let d = due_does n inner wagons berths m even due in (d.legal, d.fell)
+due_is_legal n inner wagons berths m even due = grind (arith, due_does n inner wagons berths m even due)

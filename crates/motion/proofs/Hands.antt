@@ -1,5 +1,5 @@
 -- The moves of one section, one after another: a wagon that is shifted for a branch is shifted for each section that waits for it.
-use Rattle.std.proofs.Common.{◌≡◌, ℕ, ◌+◌, List, [], ◌∷◌, ◌++◌, length, get_or, sym, arith}
+use Rattle.std.proofs.Common.{◌≡◌, ℕ, ◌+◌, List, [], ◌∷◌, ◌++◌, length, get_or, arith, rules}
 use Rattle.motion.specs.declared.moves.Move.{Move}
 use Rattle.motion.specs.Demand.{demand_of, figure_of}
 use Rattle.motion.specs.Moves.{moved}
@@ -38,37 +38,27 @@ record Lifted (way : Way) (n : ℕ) (inner berths wagons : List ℕ) (u v : ℕ)
 
 lift : {way : Way} {n : ℕ} {inner berths wagons end : List ℕ} {u v : ℕ} {ms : List Move} → Hands way n inner berths wagons v ms end
     → Even n inner wagons berths → LowestAsking way n inner wagons berths u v → Ready way wagons u → Lifted way n inner berths wagons u v ms end
-lift Hands.done even low ready = record { hands = Hands.done; low = low; ready = ready; even = even }
+lift Hands.done even low ready = search (rules, Hands.done)
 lift {way} {n} {inner} {berths} {wagons} {u = u} {v = v} (Hands.hand {m = m} r f h) even low ready =
     let does = first_does way n inner wagons berths v m even r f in
     let up = branch_up n inner even.tree low.branch in
-    let low' : LowestAsking way n inner (moved wagons m) berths u v = record {
-      branch = low.branch;
-      asks = asks_same way n inner berths wagons (moved wagons m) v (does.demands v (omega arith)) low.asks;
-      lowest = λ k l b a. low.lowest k l b (asks_same way n inner berths (moved wagons m) wagons k (sym (does.demands k (omega arith))) a);
-    } in
-    let ready' = ready_same way wagons (moved wagons m) u (does.holds u up) ready in
-    let rest = lift h does.even low' ready' in
-    record { hands = Hands.hand ready (FirstMove.onward low r f) rest.hands; low = rest.low; ready = rest.ready; even = rest.even }
+    let low' : LowestAsking way n inner (moved wagons m) berths u v = grind (arith, asks_same way n inner berths) in
+    let rest = lift h does.even low' (ready_same way wagons (moved wagons m) u (does.holds u up) ready) in
+    search (rules, Hands.hand, FirstMove.onward)
 
 -- a wagon that is shifted between u and its lowest branch that asks: moves of u, which is open after them
 pub shifts_hands : {way : Way} {n : ℕ} {inner berths wagons end : List ℕ} {u v : ℕ} {ms : List Move} → Shifts way n inner berths wagons u v ms end
     → Even n inner wagons berths → LowestAsking way n inner wagons berths u v → Ready way wagons u → Hands way n inner berths wagons u ms end × Open way end u
-shifts_hands {way} {n} {inner} {berths} {wagons} {u = u} {v = v} (Shifts.straight opened) even low ready =
-    let near = nearer way n inner wagons berths u v even (record { branch = low.branch; asks = low.asks; ready = ready; opened = opened }) in
-    (Hands.hand ready (FirstMove.straight low opened) Hands.done, near.opened)
+shifts_hands {way} {n} {inner} {berths} {wagons} {u = u} {v = v} (Shifts.straight opened) even low ready = search (rules, Hands.hand, FirstMove.straight, Hands.done)
 shifts_hands {way} {n} {inner} {berths} {u = u} {v = v} (Shifts.after {then = then} r low' s) even low ready =
     let on = shifts_hands s even low' r in
     let up = lift on.0 even low ready in
-    let near = nearer way n inner then berths u v up.even (record { branch = low.branch; asks = up.low.asks; ready = up.ready; opened = on.1 }) in
-    (hands_push up.hands up.ready (FirstMove.straight up.low on.1), near.opened)
+    search (rules, hands_push, FirstMove.straight, nearer)
 
 hands_fell : {way : Way} {n : ℕ} {inner berths wagons end : List ℕ} {u : ℕ} {ms : List Move} → Hands way n inner berths wagons u ms end → Even n inner wagons berths
     → figure_of n inner end berths + length ms ≡ figure_of n inner wagons berths
 hands_fell Hands.done even = omega arith
-hands_fell {way} {n} {inner} {berths} {wagons} {u = u} (Hands.hand {m = m} r f h) even =
-    let does = first_does way n inner wagons berths u m even r f in
-    omega (arith, does.fell, hands_fell h does.even)
+hands_fell {way} {n} {inner} {berths} {wagons} {u = u} (Hands.hand {m = m} r f h) even = grind (arith, hands_fell h, first_does)
 
 -- the figure falls by as many as the moves are
 pub shifts_fell : {way : Way} {n : ℕ} {inner berths wagons end : List ℕ} {u v : ℕ} {ms : List Move} → Shifts way n inner berths wagons u v ms end
@@ -78,7 +68,4 @@ shifts_fell s even low ready = hands_fell (shifts_hands s even low ready).0 even
 -- once its branch v has done so with its own, u and v are ready and open for the move between them
 pub waited : {way : Way} {n : ℕ} {inner berths wagons then : List ℕ} {u v x : ℕ} {ms : List Move} → Shifts way n inner berths wagons v x ms then → Even n inner wagons berths
     → LowestAsking way n inner wagons berths v x → Ready way wagons v → LowestAsking way n inner wagons berths u v → Ready way wagons u → Served way n inner then berths u v
-waited s even low' r low ready =
-    let on = shifts_hands s even low' r in
-    let up = lift on.0 even low ready in
-    record { branch = low.branch; asks = up.low.asks; ready = up.ready; opened = on.1 }
+waited s even low' r low ready = grind (arith, shifts_hands, lift)

@@ -1,5 +1,5 @@
 -- Where a list of moves leads, and where it stops.
-use Rattle.std.proofs.Common.{◌≡◌, ℕ, ◌+◌, ◌<◌, ◌≤◌, List, [], ◌∷◌, ◌++◌, length, get_or, take, sym, refl, subst, take_all}
+use Rattle.std.proofs.Common.{◌≡◌, ℕ, ◌+◌, ◌<◌, ◌≤◌, List, [], ◌∷◌, ◌++◌, length, get_or, take, refl, take_all, arith}
 use Rattle.std.proofs.lemmas.List.{take_more}
 use Rattle.motion.specs.declared.moves.Move.{Move}
 use Rattle.motion.specs.Moves.{moved, Legal, Leads}
@@ -37,16 +37,6 @@ module _ {n : ℕ} {inner : List ℕ} where
       → (Legal n inner other m' → ⊥)
       → (before ≡ before') × (m ≡ m')
   stops_once [] [] after after' m m' e Leads.stays Leads.stays stuck stuck' = (refl, cc)
-  stops_once [] (b ∷ before') after after' m m' e Leads.stays (Leads.goes legal _) stuck stuck' =
-      let same : b ≡ m = cc in
-      absurd (stuck (subst (Legal n inner _) same legal))
-  stops_once (b ∷ before) [] after after' m m' e (Leads.goes legal _) Leads.stays stuck stuck' =
-      let same : b ≡ m' = cc in
-      absurd (stuck' (subst (Legal n inner _) same legal))
-  stops_once (b ∷ before) (b' ∷ before') after after' m m' {wagons} {other = other} e (Leads.goes _ rest) (Leads.goes _ rest') stuck stuck' =
-      let same : b ≡ b' = cc in
-      let tails : before ++ (m ∷ after) ≡ before' ++ (m' ∷ after') = cc in
-      let too = subst (λ (k : Move). Leads n inner (moved wagons k) before' other) (sym same) rest' in
-      let on = stops_once before before' after after' m m' tails rest too stuck stuck' in
-      let firsts = on.0 in
-      (cc, on.1)
+  stops_once [] (b ∷ before') after after' m m' e Leads.stays (Leads.goes legal _) stuck stuck' = grind arith
+  stops_once (b ∷ before) [] after after' m m' e (Leads.goes legal _) Leads.stays stuck stuck' = grind arith
+  stops_once (b ∷ before) (b' ∷ before') after after' m m' {wagons} {other = other} e (Leads.goes _ rest) (Leads.goes _ rest') stuck stuck' = grind (arith, stops_once before before' after after' m m')

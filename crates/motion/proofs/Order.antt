@@ -1,5 +1,5 @@
 -- The order in which sections are visited: none comes before itself, and of two sections one comes before the other.
-use Rattle.std.proofs.Common.{◌≡◌, ℕ, zero, suc, ◌+◌, ◌<◌, ◌≤◌, ◌≢◌, ◌⊎◌, List, get_or, sym, refl, ap, ◌∙◌, inl, inr, arith}
+use Rattle.std.proofs.Common.{◌≡◌, ℕ, zero, suc, ◌+◌, ◌<◌, ◌≤◌, ◌≢◌, ◌⊎◌, List, get_or, sym, refl, inl, inr, arith, rules}
 use Rattle.std.proofs.lemmas.Bool.{cases_eq, cases_order}
 use Rattle.motion.specs.Tree.{Tree, Branch, Below}
 use Rattle.motion.specs.Visit.{Before}
@@ -15,20 +15,15 @@ chain Below.itself b = inr b
 chain (Below.farther z a) Below.itself = inl (Below.farther z a)
 chain (Below.farther z a) (Below.farther w b) = chain a b
 
--- of a section that lies below s and is not s, the inner neighbour lies below s too
-inner_below : {inner : List ℕ} {s t : ℕ} → Below inner s t → s ≢ t → Below inner s (get_or inner t 0)
-inner_below Below.itself ne = absurd (ne refl)
-inner_below (Below.farther z b) ne = b
-
 pub branch_below : {n : ℕ} {inner : List ℕ} {p a s : ℕ} → Branch n inner p a → Below inner s p → Below inner s a
-branch_below b u = Below.farther b.outer (rw b.hangs u)
+branch_below b u = grind (arith, Below.farther)
 
 pub below_branch : {n : ℕ} {inner : List ℕ} {p a s : ℕ} → Branch n inner p a → Below inner s a → s ≢ a → Below inner s p
-below_branch b u ne = rw b.hangs at (inner_below u ne)
+below_branch b u ne = search rules
 
 -- a section hangs on one section only
 pub one_inner : {n : ℕ} {inner : List ℕ} {p u a v : ℕ} → Branch n inner p a → Branch n inner u v → a ≡ v → p ≡ u
-one_inner {inner = inner} b c e = sym b.hangs ∙ ap (λ (i : ℕ). get_or inner i 0) e ∙ c.hangs
+one_inner {inner = inner} b c e = cc
 
 -- a branch a of p and a branch c of q that one section lies below: they are the same, or one lies at or below the other's section
 data Forks (inner : List ℕ) (p a q c : ℕ) : Type 0 where
@@ -94,41 +89,25 @@ ahead {v = v} b (Before.beside {a = a} {b = c} ba bc ac ua uc) =
 
 module _ (n : ℕ) (inner : List ℕ) (tree : Tree n inner) where
   pub branch_up : {s c : ℕ} → Branch n inner s c → s < c
-  branch_up {c = c} b = let low = tree.lower c b.outer b.within in omega (arith, b.hangs)
+  branch_up {c = c} b = grind arith
 
   pub below_le : {s t : ℕ} → t < n → Below inner s t → s ≤ t
   below_le l Below.itself = omega arith
-  below_le {t = t} l (Below.farther z b) =
-      let low = tree.lower t z l in
-      let ih = below_le (omega arith) b in
-      omega arith
+  below_le {t = t} l (Below.farther z b) = grind (arith, below_le (omega arith) b)
 
   -- nothing lies below two branches of one section
   pub apart : {p a b t : ℕ} → Branch n inner p a → Branch n inner p b → a < b → Below inner a t → Below inner b t → ⊥
-  apart {p} ba bb ab ua ub =
-      let up = branch_up ba in
-      let on = branch_up bb in
-      elim (forks ba bb ua ub) [
-        | same e q ↦ omega arith
-        | first v ↦ omega (arith, below_le (omega (arith, ba.within)) v)
-        | second v ↦ omega (arith, below_le (omega (arith, ba.within)) v)
-      ]
+  apart {p} ba bb ab ua ub = grind (arith, forks ba bb ua ub, below_le)
 
   pub before_irrefl : {t : ℕ} → t < n → Before n inner t t → ⊥
-  before_irrefl l (Before.above b u) = omega (arith, branch_up b, below_le l u)
+  before_irrefl l (Before.above b u) = omega (arith, below_le l u)
   before_irrefl l (Before.beside ba bb ab ua ub) = apart ba bb ab ua ub
-
-  pub nothing_before_neck : {t : ℕ} → 0 < n → Before n inner t 0 → ⊥
-  nothing_before_neck l (Before.above b u) = omega (arith, b.outer, below_le l u)
-  nothing_before_neck l (Before.beside ba bb ab ua ub) = omega (arith, bb.outer, below_le l ub)
 
   -- every section lies below the neck
   pub below_the_neck : (k t : ℕ) → t ≤ k → t < n → Below inner 0 t
   below_the_neck k zero p l = Below.itself
-  below_the_neck zero (suc t) p l = let z : ⊥ = omega arith in absurd z
-  below_the_neck (suc k) (suc t) p l =
-      let low = tree.lower (suc t) (omega arith) l in
-      Below.farther (omega arith) (below_the_neck k (get_or inner (suc t) 0) (omega arith) (omega arith))
+  below_the_neck zero (suc t) p l = grind arith
+  below_the_neck (suc k) (suc t) p l = search (rules, Below.farther, below_the_neck k)
 
   -- what lies below u is u, or comes after it
   pub below_after : {u t : ℕ} → t < n → Below inner u t → (u ≡ t) ⊎ Before n inner u t
@@ -153,12 +132,10 @@ module _ (n : ℕ) (inner : List ℕ) (tree : Tree n inner) where
   past {s = s} {t = t} l own (Before.above {c = c} bc uc) =
       elim (cases_order c t) [
         | inl e ↦ elim (below_after l (rw e at uc)) [ inl q ↦ Which.same (sym q) | inr b ↦ Which.later b ]
-        | inr o ↦ elim o [
-          | inl ct ↦ Which.sooner (Before.beside bc own ct uc Below.itself)
-          | inr tc ↦ Which.later (Before.beside own bc tc Below.itself uc)
-        ]
+        | inr (inl ct) ↦ Which.sooner (Before.beside bc own ct uc Below.itself)
+        | inr (inr tc) ↦ Which.later (Before.beside own bc tc Below.itself uc)
       ]
-  past l own (Before.beside ba bb ab ua ub) = Which.later (Before.beside ba bb ab (branch_below own ua) ub)
+  past l own (Before.beside ba bb ab ua ub) = search (rules, Which.later, Before.beside, branch_below)
 
   -- from the inner neighbour of t to t
   outward : {s t : ℕ} → s < t → t < n → Which n inner s (get_or inner t 0) → Which n inner s t
@@ -171,14 +148,12 @@ module _ (n : ℕ) (inner : List ℕ) (tree : Tree n inner) where
       ]
 
   which_within : (k s t : ℕ) → s + t < k → s < n → t < n → Which n inner s t
-  which_within zero s t m p q = let z : ⊥ = omega arith in absurd z
+  which_within zero s t m p q = grind arith
   which_within (suc k) s t m p q =
       elim (cases_order s t) [
         | inl e ↦ Which.same e
-        | inr o ↦ elim o [
-          | inl st ↦ let low = tree.lower t (omega arith) q in outward st q (which_within k s (get_or inner t 0) (omega arith) p (omega arith))
-          | inr ts ↦ let low = tree.lower s (omega arith) p in swapped (outward ts p (which_within k t (get_or inner s 0) (omega arith) q (omega arith)))
-        ]
+        | inr (inl st) ↦ outward st q (which_within k s (get_or inner t 0) (grind (arith, tree.lower t)) p (grind (arith, tree.lower t)))
+        | inr (inr ts) ↦ swapped (outward ts p (which_within k t (get_or inner s 0) (grind (arith, tree.lower s)) q (grind (arith, tree.lower s))))
       ]
 
   pub which : (s t : ℕ) → s < n → t < n → Which n inner s t

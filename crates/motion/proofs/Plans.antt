@@ -1,6 +1,5 @@
 -- With equal numbers the balancing recursion comes to an end, and its moves are those of stepping.
-use Rattle.std.proofs.Common.{ℕ, zero, suc, ◌+◌, ◌-◌, ◌<◌, ◌≤◌, ◌⊎◌, List, [], ◌∷◌, ◌++◌, length, inl, inr, arith, length-append}
-use Rattle.std.proofs.lemmas.Bool.{cases_lt}
+use Rattle.std.proofs.Common.{ℕ, zero, suc, ◌+◌, ◌-◌, ◌<◌, ◌≤◌, ◌⊎◌, List, [], ◌∷◌, ◌++◌, length, inl, inr, arith, length-append, rules}
 use Rattle.motion.specs.declared.moves.Move.{Move}
 use Rattle.motion.specs.Tree.{Branch}
 use Rattle.motion.specs.Demand.{figure_of}
@@ -8,8 +7,7 @@ use Rattle.motion.specs.Moves.{moved}
 use Rattle.motion.specs.declared.ways.Way.{Way}
 use Rattle.motion.specs.Due.{Ready, over, LowestAsking}
 use Rattle.motion.specs.Stepping.{Stepping, Shifts, Turns, Next, Task, Balancing, Even}
-use Rattle.motion.proofs.Decided.{both, branch_or_not}
-use Rattle.motion.proofs.Order.{branch_up, nothing_before_neck, below_the_neck}
+use Rattle.motion.proofs.Order.{branch_up, below_the_neck}
 use Rattle.motion.proofs.Least.{least}
 use Rattle.motion.proofs.Asking.{ready_or_open, some_way, unsettled_or_not, asks_onward, unsettled_asks}
 use Rattle.motion.proofs.DueMoves.{first_zero}
@@ -20,7 +18,9 @@ use Rattle.motion.proofs.Went.{run_steps, CalmBefore, calm_off, hands_went, turn
 -- a wagon can be shifted between a section and its lowest branch that asks
 shifts : (way : Way) (n : ℕ) (inner wagons berths : List ℕ) → Even n inner wagons berths → (k u v : ℕ) → n ≤ v + k → LowestAsking way n inner wagons berths u v
     → (ms : List Move) × (end : List ℕ) × Shifts way n inner berths wagons u v ms end
-shifts way n inner wagons berths even zero u v le low = let z : ⊥ = omega (arith, low.branch.within) in absurd z
+shifts way n inner wagons berths even zero u v le low =
+    let z : ⊥ = omega (arith, low.branch.within) in
+    absurd z
 shifts way n inner wagons berths even (suc k) u v le low =
     elim (ready_or_open way wagons v) [
       | inl ready ↦
@@ -33,7 +33,7 @@ shifts way n inner wagons berths even (suc k) u v le low =
 
 pub some_move : {way : Way} {n : ℕ} {inner berths wagons end : List ℕ} {u v : ℕ} {ms : List Move} → Shifts way n inner berths wagons u v ms end → 0 < length ms
 some_move (Shifts.straight o) = omega arith
-some_move {way} {u = u} {v = v} (Shifts.after {ms = ms} r low s) = omega (arith, length-append ms (over way u v ∷ []))
+some_move {way} {u = u} {v = v} (Shifts.after {ms = ms} r low s) = grind (arith, length-append)
 
 -- a section can be balanced, where all before it is settled: each turn lowers the figure
 abbrev SomeTurns : ℕ → List ℕ → List ℕ → List ℕ → ℕ → Type 0
@@ -58,14 +58,7 @@ turns n inner berths u l (suc k) wagons even calm le =
     ]
 
 next_or_none : (n : ℕ) (inner : List ℕ) (u from : ℕ) → ((v : ℕ) × Next n inner u from v) ⊎ ((k : ℕ) → from ≤ k → Branch n inner u k → ⊥)
-next_or_none n inner u from =
-    elim (least (λ k. (from ≤ k) × Branch n inner u k) (λ k. both (from_on k) (branch_or_not n inner u k)) n) [
-      | inl f ↦ inl (f.0, record { branch = f.1.holds.1; ahead = f.1.holds.0; lowest = λ k g l b. f.1.lowest k l (g, b) })
-      | inr none ↦ inr (λ k g b. none k b.within (g, b))
-    ]
-  where
-    from_on : (k : ℕ) → (from ≤ k) ⊎ (from ≤ k → ⊥)
-    from_on k = elim (cases_lt k from) [ inl l ↦ inr (λ g. omega arith) | inr g ↦ inl g ]
+next_or_none n inner u from = grind (arith, least (λ k. (from ≤ k) × Branch n inner u k) (λ k. grind arith) n)
 
 abbrev SomeBalancing : ℕ → List ℕ → List ℕ → List ℕ → Task → Type 0
 SomeBalancing n inner berths wagons task = (ms : List Move) × (end : List ℕ) × Balancing n inner berths wagons task ms end
@@ -109,7 +102,7 @@ balancing n inner berths (suc k) (Task.row u from) wagons even l calm found le =
 module _ (n : ℕ) (inner wagons berths : List ℕ) (even : Even n inner wagons berths) where
   -- nothing comes before the neck
   pub calm_neck : CalmBefore n inner berths wagons 0
-  calm_neck t l bef un = nothing_before_neck n inner even.tree even.some bef
+  calm_neck t l bef un = search rules
 
   plan_steps : (ms : List Move) (end : List ℕ) → Balancing n inner berths wagons (Task.whole 0) ms end → Stepping n inner berths wagons ms end
   plan_steps ms end plan =
@@ -119,8 +112,7 @@ module _ (n : ℕ) (inner wagons berths : List ℕ) (even : Even n inner wagons 
   steps_plan : (ms : List Move) (end : List ℕ) → Stepping n inner berths wagons ms end → Balancing n inner berths wagons (Task.whole 0) ms end
   steps_plan ms end steps =
       let plan = balancing n inner berths (n + n + 1) (Task.whole 0) wagons even even.some calm_neck tt (omega arith) in
-      let same = one_stepping n inner wagons berths plan.0 ms plan.1 end even.tree (plan_steps plan.0 plan.1 plan.2) steps in
-      rw (same.0, same.1) at plan.2
+      grind (arith, one_stepping n inner wagons berths plan.0 ms plan.1 end even.tree (plan_steps plan.0 plan.1 plan.2) steps)
 
 pub steps_are_the_plan :
     (n : ℕ) (inner wagons berths : List ℕ) (ms : List Move) (end : List ℕ) → Even n inner wagons berths

@@ -1,5 +1,5 @@
 -- What is promised of every siding, and of every run, holds.
-use Rattle.std.proofs.Common.{◌≡◌, ℕ, zero, suc, ◌+◌, ◌<◌, ◌≤◌, ltb, List, [], ◌∷◌, replicate, sym, refl, ap, ◌∙◌, inl, inr, ⊎_elim, arith}
+use Rattle.std.proofs.Common.{◌≡◌, ℕ, zero, suc, ◌+◌, ◌<◌, ◌≤◌, ltb, List, [], ◌∷◌, replicate, refl, ap, ◌∙◌, inl, inr, ⊎_elim, arith, rules}
 use Rattle.std.proofs.lemmas.Bool.{lt-ltb, le-ltb}
 use Rattle.motion.specs.declared.moves.Move.{Move}
 use Rattle.motion.specs.declared.calls.Act.{Act}
@@ -23,23 +23,11 @@ module _ (x : State) (sound : Sound x) (equal : EqualNumbers x) where
   even = even_from x sound equal
 
   pub least : Least x
-  least =
-      let steps = stepping_ends x.sections x.inner x.wagons x.berths even in
-      let out = stepping_fills x.sections x.inner x.wagons x.berths steps.0 steps.1 even steps.2 in
-      record {
-        moves_due = steps.0;
-        end = steps.1;
-        due = steps.2;
-        fills = record { end = steps.1; leads = out.leads; filled = out.filled };
-        count = out.count;
-        none_shorter = figure_is_a_floor x.sections x.inner x.wagons x.berths sound.tree sound.long_wagons equal;
-      }
+  least = grind (arith, stepping_ends, stepping_fills, figure_is_a_floor)
 
   -- settled means filled, and no move to make
   settled_filled : SettledIn x → (figure x ≡ 0) × Filled x.sections x.wagons x.berths
-  settled_filled settled =
-      let out = stepping_fills x.sections x.inner x.wagons x.berths [] x.wagons even (Stepping.settled settled) in
-      (sym out.count, out.filled)
+  settled_filled settled = grind (arith, stepping_fills x.sections x.inner x.wagons x.berths [] x.wagons even (Stepping.settled settled))
 
   -- a move that is due lowers the figure
   due_lowers : (m : Move) → DueIn x m → Legal x.sections x.inner x.wagons m × (figure (stepped x m) + 1 ≡ figure x)
@@ -47,27 +35,25 @@ module _ (x : State) (sound : Sound x) (equal : EqualNumbers x) where
 
   unmoved_settled : figure x ≡ 0 → SettledIn x
   unmoved_settled none =
-      ⊎_elim
-      (λ un. let due = some_due x.sections x.inner x.wagons x.berths even un.0 un.1 un.2 in absurd (omega (arith, (due_lowers due.0 due.1).1)))
-      (λ settled. settled)
-      (settled_or_not x)
+      elim (settled_or_not x) [
+        | inl un ↦ (let due = some_due x.sections x.inner x.wagons x.berths even un.0 un.1 un.2 in grind (arith, due_lowers due.0 due.1))
+        | inr settled ↦ settled
+      ]
 
   -- with moves to make and room for one, a step makes one
   step_moves : 0 < figure x → x.moves < most_moves → (y : State) → Makes Step x y → (m : Move) × (DueIn x m × (y ≡ stepped x m))
   step_moves some room y (Makes.done (_, inl (m, due, _, e))) = (m, (due, e))
-  step_moves some room y (Makes.done (_, inr (settled, e))) = absurd (omega (arith, (settled_filled settled).0))
+  step_moves some room y (Makes.done (_, inr (settled, e))) = grind (arith, settled_filled)
   step_moves some room y (Makes.refused none e) =
-      ⊎_elim
-      (λ un. let due = some_due x.sections x.inner x.wagons x.berths even un.0 un.1 un.2 in absurd (none (stepped x due.0) (equal, inl (due.0, due.1, room, refl))))
-      (λ settled. absurd (omega (arith, (settled_filled settled).0)))
-      (settled_or_not x)
+      elim (settled_or_not x) [
+        | inl un ↦ (let due = some_due x.sections x.inner x.wagons x.berths even un.0 un.1 un.2 in absurd (none (stepped x due.0) (equal, inl (due.0, due.1, room, refl))))
+        | inr settled ↦ grind (arith, settled_filled settled)
+      ]
 
 -- as many steps as the figure says
 steps_out : (k : ℕ) (x z : State) → Sound x → EqualNumbers x → figure x ≡ k → x.moves + k ≤ most_moves → After (replicate k Step) x z
     → (z.moves ≡ x.moves + k) × (z.away ≡ x.away) × SettledIn z × Filled z.sections z.wagons z.berths
-steps_out zero x z sound equal is room After.start =
-    let settled = unmoved_settled x sound equal is in
-    (omega arith, refl, settled, (settled_filled x sound equal settled).1)
+steps_out zero x z sound equal is room After.start = grind (arith, unmoved_settled x sound equal is, settled_filled)
 steps_out (suc k) x z sound equal is room (After.then made rest) =
     let moves = step_moves x sound equal (omega arith) (omega arith) _ made in
     let does = due_lowers x sound equal moves.0 moves.1.0 in
@@ -78,10 +64,9 @@ steps_out (suc k) x z sound equal is room (After.then made rest) =
 pub stepping_on_fills : (x : State) → Sound x → x.sections ≤ 512 → EqualNumbers x → (z : State) → After (Called Turn ∷ replicate (figure x) Step) x z → SteppedOut x z
 stepping_on_fills x sound most equal z (After.then (Makes.done e) rest) =
     let turned = page_begun x in
+    let fresh : Sound turned = search rules in
     let few = figures_within x.sections x.inner x.wagons x.berths most sound.one_wagon sound.one_berth in
-    let fresh : Sound turned = record { some = sound.some; tree = sound.tree; long_wagons = sound.long_wagons; long_berths = sound.long_berths; one_wagon = sound.one_wagon; one_berth = sound.one_berth } in
-    let out = steps_out (figure x) turned z fresh equal refl (omega arith) (rw e at rest) in
-    record { moves = omega (arith, out.0); away = out.1; settled = out.2; filled = out.3 }
+    grind (arith, steps_out (figure x) turned z fresh equal refl (omega arith) (rw e at rest))
 stepping_on_fills x sound most equal z (After.then (Makes.refused none e) rest) = absurd (none (page_begun x) refl)
 
 -- a hand move that lowers the figure begins a shortest list, and one that raises it begins none

@@ -1,26 +1,23 @@
 -- Runs of calls: one more at the end, a split, one end only.
-use Rattle.std.proofs.Common.{◌≡◌, ℕ, ◌+◌, ◌-◌, ◌<◌, ◌≤◌, ◌⊎◌, List, [], ◌∷◌, ◌++◌, length, get_or, take, sym, refl, ap, ◌∙◌, subst, inl, inr, ⊎_elim, arith, take_all}
-use Rattle.std.proofs.lemmas.List.{take_more, length-set, get_or-set_other}
+use Rattle.std.proofs.Common.{◌≡◌, ℕ, ◌+◌, ◌<◌, ◌≤◌, ◌⊎◌, List, [], ◌∷◌, ◌++◌, length, get_or, take, sym, refl, ◌∙◌, inl, inr, ⊎_elim, take_all, rules, arith}
+use Rattle.std.proofs.lemmas.List.{take_more}
 use Rattle.std.proofs.lemmas.Bool.{cases_eq}
 use Rattle.motion.specs.declared.moves.Move.{Move}
 use Rattle.motion.specs.declared.calls.Act.{Act}
 use Rattle.motion.specs.declared.calls.Act.TheVariants.{Call as Called, Step}
 use Rattle.motion.specs.declared.calls.Call.{Call}
 use Rattle.motion.specs.declared.calls.Call.TheVariants.{Put, Take, Mark, Unmark, Hand, Turn}
-use Rattle.motion.specs.Tree.{Tree, total}
-use Rattle.motion.specs.Demand.{Single}
-use Rattle.motion.specs.Moves.{Legal, moved, one_less, one_more}
+use Rattle.motion.specs.Tree.{total}
+use Rattle.motion.specs.Moves.{Legal, one_less, one_more}
 use Rattle.motion.specs.Visit.{Unsettled}
 use Rattle.motion.specs.Stepping.{Even}
 use Rattle.motion.specs.State.{State, page_begun, with_wagons, with_berths, most_moves, EqualNumbers}
 use Rattle.motion.specs.Calls.{Does, Done, SettledIn, Makes, After, Passing, Sound, hand_moved, stepped}
 use Rattle.motion.proofs.Asking.{unsettled_or_not}
-use Rattle.motion.proofs.Changed.{length_moved, single_more, single_less}
 use Rattle.motion.proofs.Decided.{both, below_or_not, legal_or_not}
 use Rattle.motion.proofs.DueMoves.{some_due, none_due, due_is_legal}
 use Rattle.motion.proofs.Least.{least}
 use Rattle.motion.proofs.OneDue.{one_due}
-use Rattle.motion.proofs.Pages.{legal_apart}
 
 -- one call more at the end
 pub after_push : {cs : List Act} {c : Act} {x y z : State} → After cs x y → Makes c y z → After (cs ++ (c ∷ [])) x z
@@ -44,103 +41,34 @@ pub every_split :
     (before : List Act) (c : Act) (after : List Act) (entry exit : State)
     → After (before ++ (c ∷ after)) entry exit
     → (x : State) × (y : State) × Passing before c after entry x y exit
-every_split [] c after entry exit (After.then m r) = (_, _, record { to_it = After.start; it = m; from_it = r })
+every_split [] c after entry exit (After.then m r) = search (rules, After.start)
 every_split (b ∷ before) c after entry exit (After.then m r) =
     let p = every_split before c after _ exit r in
-    (p.0, p.1, record { to_it = After.then m p.2.to_it; it = p.2.it; from_it = p.2.from_it })
-
--- at most one wagon to a section, also after a move
-moved_single :
-    (n : ℕ) (inner wagons : List ℕ) (m : Move) → Tree n inner → n ≤ length wagons → Single n wagons → Legal n inner wagons m
-    → Single n (moved wagons m)
-moved_single n inner wagons m tree long single legal =
-    let left = one_less wagons m.from in
-    let apart : (m.to ≡ m.from → ⊥) = ⊎_elim (λ (h : m.to < m.from). λ e. omega arith) (λ (h : m.from < m.to). λ e. omega arith) (legal_apart n inner wagons m tree legal) in
-    single_more n left m.to legal.to_in (omega (arith, length-set wagons m.from (get_or wagons m.from 0 - 1)))
-    (get_or-set_other wagons m.from m.to _ 0 apart ∙ legal.free)
-    (single_less n wagons m.from legal.from_in long single)
+    (p.0, p.1, search (rules, After.then))
 
 -- what every siding keeps
-sound_put : (x : State) (s : ℕ) → Sound x → s < x.sections → get_or x.wagons s 0 ≡ 0 → Sound (page_begun (with_wagons x (one_more x.wagons s)))
-sound_put x s sound l none = record {
-  some = sound.some;
-  tree = sound.tree;
-  long_wagons = omega (arith, length-set x.wagons s (get_or x.wagons s 0 + 1), sound.long_wagons);
-  long_berths = sound.long_berths;
-  one_wagon = single_more x.sections x.wagons s l sound.long_wagons none sound.one_wagon;
-  one_berth = sound.one_berth;
-}
-
-sound_take : (x : State) (s : ℕ) → Sound x → s < x.sections → Sound (page_begun (with_wagons x (one_less x.wagons s)))
-sound_take x s sound l = record {
-  some = sound.some;
-  tree = sound.tree;
-  long_wagons = omega (arith, length-set x.wagons s (get_or x.wagons s 0 - 1), sound.long_wagons);
-  long_berths = sound.long_berths;
-  one_wagon = single_less x.sections x.wagons s l sound.long_wagons sound.one_wagon;
-  one_berth = sound.one_berth;
-}
-
-sound_mark : (x : State) (s : ℕ) → Sound x → s < x.sections → get_or x.berths s 0 ≡ 0 → Sound (page_begun (with_berths x (one_more x.berths s)))
-sound_mark x s sound l none = record {
-  some = sound.some;
-  tree = sound.tree;
-  long_wagons = sound.long_wagons;
-  long_berths = omega (arith, length-set x.berths s (get_or x.berths s 0 + 1), sound.long_berths);
-  one_wagon = sound.one_wagon;
-  one_berth = single_more x.sections x.berths s l sound.long_berths none sound.one_berth;
-}
-
-sound_unmark : (x : State) (s : ℕ) → Sound x → s < x.sections → Sound (page_begun (with_berths x (one_less x.berths s)))
-sound_unmark x s sound l = record {
-  some = sound.some;
-  tree = sound.tree;
-  long_wagons = sound.long_wagons;
-  long_berths = omega (arith, length-set x.berths s (get_or x.berths s 0 - 1), sound.long_berths);
-  one_wagon = sound.one_wagon;
-  one_berth = single_less x.sections x.berths s l sound.long_berths sound.one_berth;
-}
-
 pub sound_moved : (x : State) (m : Move) → Sound x → Legal x.sections x.inner x.wagons m → Sound (stepped x m)
-sound_moved x m sound legal = record {
-  some = sound.some;
-  tree = sound.tree;
-  long_wagons = omega (arith, length_moved x.sections x.inner sound.tree x.wagons m legal, sound.long_wagons);
-  long_berths = sound.long_berths;
-  one_wagon = moved_single x.sections x.inner x.wagons m sound.tree sound.long_wagons sound.one_wagon legal;
-  one_berth = sound.one_berth;
-}
+sound_moved x m sound legal = search rules
 
 pub even_from : (x : State) → Sound x → EqualNumbers x → Even x.sections x.inner x.wagons x.berths
-even_from x sound equal = record {
-  some = sound.some;
-  tree = sound.tree;
-  long = sound.long_wagons;
-  one_wagon = sound.one_wagon;
-  one_berth = sound.one_berth;
-  equal = equal;
-}
+even_from x sound equal = search rules
 
 sound_does : (c : Call) (x y : State) → Sound x → Does c x y → Sound y
-sound_does (Put s) x y sound d = subst Sound (sym d.2) (sound_put x s sound d.0 d.1)
-sound_does (Take s) x y sound d = subst Sound (sym d.2) (sound_take x s sound d.0)
-sound_does (Mark s) x y sound d = subst Sound (sym d.2) (sound_mark x s sound d.0 d.1)
-sound_does (Unmark s) x y sound d = subst Sound (sym d.2) (sound_unmark x s sound d.0)
-sound_does (Hand m) x y sound d =
-    let after = sound_moved x m sound d.0 in
-    subst Sound (sym d.2) (record { some = after.some; tree = after.tree; long_wagons = after.long_wagons; long_berths = after.long_berths; one_wagon = after.one_wagon; one_berth = after.one_berth })
-sound_does Turn x y sound d = subst Sound (sym d) (record { some = sound.some; tree = sound.tree; long_wagons = sound.long_wagons; long_berths = sound.long_berths; one_wagon = sound.one_wagon; one_berth = sound.one_berth })
+sound_does (Put s) x y sound d = search rules
+sound_does (Take s) x y sound d = search rules
+sound_does (Mark s) x y sound d = search rules
+sound_does (Unmark s) x y sound d = search rules
+sound_does (Hand m) x y sound d = search rules
+sound_does Turn x y sound d = grind arith
 
 sound_step : (x y : State) → Sound x → Done Step x y → Sound y
-sound_step x y sound (equal, inl (m, due, room, e)) =
-    let legal = (due_is_legal x.sections x.inner x.wagons x.berths m (even_from x sound equal) due).0 in
-    subst Sound (sym e) (sound_moved x m sound legal)
-sound_step x y sound (equal, inr (settled, e)) = subst Sound (sym e) sound
+sound_step x y sound (equal, inl (m, due, room, e)) = search (rules, (due_is_legal x.sections x.inner x.wagons x.berths m (even_from x sound equal) due).0)
+sound_step x y sound (equal, inr (settled, e)) = search rules
 
 pub sound_makes : (a : Act) (x y : State) → Sound x → Makes a x y → Sound y
 sound_makes (Called c) x y sound (Makes.done d) = sound_does c x y sound d
 sound_makes Step x y sound (Makes.done d) = sound_step x y sound d
-sound_makes a x y sound (Makes.refused none e) = subst Sound (sym e) sound
+sound_makes a x y sound (Makes.refused none e) = search rules
 
 pub sound_after : {acts : List Act} {x y : State} → Sound x → After acts x y → Sound y
 sound_after sound After.start = sound
@@ -148,16 +76,15 @@ sound_after sound (After.then m r) = sound_after (sound_makes _ _ _ sound m) r
 
 -- an act leads to one end only
 does_single : (c : Call) (x y z : State) → Does c x y → Does c x z → y ≡ z
-does_single (Put s) x y z p q = p.2 ∙ sym q.2
+does_single (Put s) x y z p q = cc
 does_single (Take s) x y z p q = p.2 ∙ sym q.2
 does_single (Mark s) x y z p q = p.2 ∙ sym q.2
 does_single (Unmark s) x y z p q = p.2 ∙ sym q.2
 does_single (Hand m) x y z p q = p.2 ∙ sym q.2
-does_single Turn x y z p q = p ∙ sym q
+does_single Turn x y z p q = cc
 
 step_single : (x y z : State) → Sound x → Done Step x y → Done Step x z → y ≡ z
-step_single x y z sound (_, inl (m, due, room, e)) (_, inl (k, other, space, f)) =
-    e ∙ ap (stepped x) (one_due x.sections x.inner x.wagons x.berths m k sound.tree due other) ∙ sym f
+step_single x y z sound (_, inl (m, due, room, e)) (_, inl (k, other, space, f)) = grind (arith, one_due x.sections x.inner x.wagons x.berths m k sound.tree)
 step_single x y z sound (_, inl (m, due, room, e)) (_, inr (settled, f)) = absurd (none_due settled due)
 step_single x y z sound (_, inr (settled, e)) (_, inl (m, due, room, f)) = absurd (none_due settled due)
 step_single x y z sound (_, inr (settled, e)) (_, inr (also, f)) = e ∙ sym f
@@ -168,15 +95,13 @@ done_single Step x y z sound p q = step_single x y z sound p q
 
 makes_single : (a : Act) (x y z : State) → Sound x → Makes a x y → Makes a x z → y ≡ z
 makes_single a x y z sound (Makes.done p) (Makes.done q) = done_single a x y z sound p q
-makes_single a x y z sound (Makes.done p) (Makes.refused q f) = absurd (q y p)
-makes_single a x y z sound (Makes.refused p e) (Makes.done q) = absurd (p z q)
+makes_single a x y z sound (Makes.done p) (Makes.refused q f) = search rules
+makes_single a x y z sound (Makes.refused p e) (Makes.done q) = search rules
 makes_single a x y z sound (Makes.refused p e) (Makes.refused q f) = e ∙ sym f
 
 pub one_end : (acts : List Act) (x y z : State) → Sound x → After acts x y → After acts x z → y ≡ z
 one_end [] x y z sound After.start After.start = refl
-one_end (a ∷ acts) x y z sound (After.then m r) (After.then k q) =
-    let e = makes_single a x _ _ sound m k in
-    one_end acts _ y z (sound_makes a x _ sound m) r (rw (sym e) at q)
+one_end (a ∷ acts) x y z sound (After.then m r) (After.then k q) = grind (arith, one_end acts _ y z (sound_makes a x _ sound m) r, makes_single)
 
 -- and to some end
 -- an act that is done to y if two things hold
@@ -195,11 +120,7 @@ made_if a x y p q does only =
 
 -- some section is unsettled, or none
 pub settled_or_not : (x : State) → ((u : ℕ) × (u < x.sections) × Unsettled x.sections x.inner x.wagons x.berths u) ⊎ SettledIn x
-settled_or_not x =
-    ⊎_elim
-    (λ f. inl (f.0, f.1.within, f.1.holds))
-    (λ none. inr none)
-    (least (Unsettled x.sections x.inner x.wagons x.berths) (unsettled_or_not x.sections x.inner x.wagons x.berths) x.sections)
+settled_or_not x = grind (arith, least (Unsettled x.sections x.inner x.wagons x.berths) (unsettled_or_not x.sections x.inner x.wagons x.berths) x.sections)
 
 step_some : (x : State) → Sound x → (y : State) × Makes Step x y
 step_some x sound =

@@ -1,33 +1,28 @@
 -- What a move does that a branch asks for: it is legal, keeps a siding even, and lowers the figure by one.
-use Rattle.std.proofs.Common.{◌≡◌, ℕ, ◌+◌, ◌-◌, ◌<◌, ◌≤◌, ◌≢◌, List, length, get_or, sym, refl, ap, ◌∙◌, inl, inr, arith}
-use Rattle.std.proofs.lemmas.List.{get_or-set_same, get_or-set_other, length-set}
-use Rattle.std.proofs.lemmas.Int.{ints}
-use Rattle.std.proofs.lemmas.Bool.{cases_eq}
+use Rattle.std.proofs.Common.{◌≡◌, ℕ, ◌+◌, ◌-◌, ◌<◌, ◌≤◌, ◌≢◌, List, length, get_or, arith, rules}
 use Rattle.motion.specs.declared.moves.Move.{Move}
 use Rattle.motion.specs.Tree.{Branch, Below}
 use Rattle.motion.specs.Demand.{demand_of, figure_of}
-use Rattle.motion.specs.Moves.{one_less, moved, Legal}
+use Rattle.motion.specs.Moves.{moved, Legal}
 use Rattle.motion.specs.Visit.{Unsettled}
 use Rattle.motion.specs.declared.ways.Way.{Way}
 use Rattle.motion.specs.declared.ways.Way.TheVariants.{Outward, Inward}
 use Rattle.motion.specs.Due.{Asks, Ready, Open, over, Eased, FirstMove}
 use Rattle.motion.specs.Stepping.{Even}
-use Rattle.motion.proofs.Changed.{length_moved, total_moved}
+use Rattle.motion.proofs.Changed.{total_moved}
 use Rattle.motion.proofs.Crossings.{one_demand_changes, figure_moved}
 use Rattle.motion.proofs.Order.{branch_up, branch_below, below_trans, below_le, one_inner}
 
 -- what the sections hold after a move
 module _ (wagons : List ℕ) (m : Move) (apart : m.from ≢ m.to) where
   at_from : m.from < length wagons → get_or (moved wagons m) m.from 0 ≡ get_or wagons m.from 0 - 1
-  at_from l = get_or-set_other (one_less wagons m.from) m.to m.from _ 0 apart ∙ get_or-set_same wagons m.from _ 0 l
+  at_from l = search rules
 
   at_to : m.to < length wagons → get_or (moved wagons m) m.to 0 ≡ get_or wagons m.to 0 + 1
-  at_to l =
-      get_or-set_same (one_less wagons m.from) m.to _ 0 (omega (arith, length-set wagons m.from (get_or wagons m.from 0 - 1)))
-      ∙ ap (λ (x : ℕ). x + 1) (get_or-set_other wagons m.from m.to _ 0 (λ e. apart (sym e)))
+  at_to l = search rules
 
   at_others : (k : ℕ) → k ≢ m.from → k ≢ m.to → get_or (moved wagons m) k 0 ≡ get_or wagons k 0
-  at_others k nf nt = get_or-set_other (one_less wagons m.from) m.to k _ 0 nt ∙ get_or-set_other wagons m.from k _ 0 nf
+  at_others k nf nt = search rules
 
 -- the branch v of p asks for a move between them, p is ready and v is open
 pub record Served (way : Way) (n : ℕ) (inner wagons berths : List ℕ) (p v : ℕ) : Type 0 where
@@ -49,66 +44,23 @@ pub record Nearer (way : Way) (n : ℕ) (inner wagons berths : List ℕ) (p v : 
   pub opened : Open way (moved wagons (over way p v)) p
 
 even_moved : (n : ℕ) (inner wagons berths : List ℕ) (m : Move) → m.from ≢ m.to → Even n inner wagons berths → Legal n inner wagons m → Even n inner (moved wagons m) berths
-even_moved n inner wagons berths m apart even legal =
-    let long = even.long in
-    let from_in = legal.from_in in
-    let to_in = legal.to_in in
-    record {
-      some = even.some;
-      tree = even.tree;
-      long = omega (arith, length_moved n inner even.tree wagons m legal);
-      one_wagon = λ s l. elim (cases_eq s m.from) [
-        | inl e ↦ rw e (omega (arith, at_from wagons m apart (omega arith), even.one_wagon m.from from_in))
-        | inr nf ↦ elim (cases_eq s m.to) [
-          | inl e ↦ rw e (omega (arith, at_to wagons m apart (omega arith), legal.free))
-          | inr nt ↦ omega (arith, at_others wagons m apart s nf nt, even.one_wagon s l)
-        ]
-      ];
-      one_berth = even.one_berth;
-      equal = total_moved n inner even.tree wagons m legal long ∙ even.equal;
-    }
+even_moved n inner wagons berths m apart even legal = search (rules, total_moved)
 
 pub nearer : (way : Way) (n : ℕ) (inner wagons berths : List ℕ) (p v : ℕ) → Even n inner wagons berths → Served way n inner wagons berths p v → Nearer way n inner wagons berths p v
 nearer Outward n inner wagons berths p v even served =
     let up = branch_up n inner even.tree served.branch in
-    let within = served.branch.within in
-    let long = even.long in
-    let apart : p ≢ v = λ e. omega arith in
-    let legal : Legal n inner wagons (over Outward p v) =
-    record { from_in = omega arith; to_in = within; neighbours = inl served.branch; there = served.ready; free = served.opened } in
-    let changes = one_demand_changes n inner wagons berths (over Outward p v) even.tree long legal in
-    let here = changes.outward up in
-    let all = figure_moved n inner wagons berths (over Outward p v) even.tree long legal v (omega arith) in
-    let asks = served.asks in
-    record {
-      legal = legal;
-      even = even_moved n inner wagons berths (over Outward p v) apart even legal;
-      fell = omega (arith, ints);
-      eased = here;
-      demands = λ k ne. changes.others k (λ e. ne (omega arith));
-      holds = λ k np nv. at_others wagons (over Outward p v) apart k np nv;
-      opened = omega (arith, at_from wagons (over Outward p v) apart (omega arith), even.one_wagon p (omega arith));
-    }
+    let legal : Legal n inner wagons (over Outward p v) = grind arith in
+    let changes = one_demand_changes n inner wagons berths (over Outward p v) even.tree even.long legal in
+    let all = figure_moved n inner wagons berths (over Outward p v) even.tree even.long legal v (omega arith) in
+    let kept = even_moved n inner wagons berths (over Outward p v) in
+    grind (arith, at_others wagons (over Outward p v), at_from wagons (over Outward p v), even.one_wagon p)
 nearer Inward n inner wagons berths p v even served =
     let up = branch_up n inner even.tree served.branch in
-    let within = served.branch.within in
-    let long = even.long in
-    let apart : v ≢ p = λ e. omega arith in
-    let legal : Legal n inner wagons (over Inward p v) =
-    record { from_in = within; to_in = omega arith; neighbours = inr served.branch; there = served.opened; free = served.ready } in
-    let changes = one_demand_changes n inner wagons berths (over Inward p v) even.tree long legal in
-    let here = changes.inward up in
-    let all = figure_moved n inner wagons berths (over Inward p v) even.tree long legal v (omega arith) in
-    let asks = served.asks in
-    record {
-      legal = legal;
-      even = even_moved n inner wagons berths (over Inward p v) apart even legal;
-      fell = omega (arith, ints);
-      eased = here;
-      demands = λ k ne. changes.others k (λ e. ne (omega arith));
-      holds = λ k np nv. at_others wagons (over Inward p v) apart k nv np;
-      opened = omega (arith, at_to wagons (over Inward p v) apart (omega arith));
-    }
+    let legal : Legal n inner wagons (over Inward p v) = grind arith in
+    let changes = one_demand_changes n inner wagons berths (over Inward p v) even.tree even.long legal in
+    let all = figure_moved n inner wagons berths (over Inward p v) even.tree even.long legal v (omega arith) in
+    let kept = even_moved n inner wagons berths (over Inward p v) in
+    grind (arith, at_others wagons (over Inward p v), at_to wagons (over Inward p v))
 
 -- the two sections of the first move of u
 pub record Joint (way : Way) (n : ℕ) (inner wagons berths : List ℕ) (u : ℕ) (m : Move) : Type 0 where
@@ -119,11 +71,8 @@ pub record Joint (way : Way) (n : ℕ) (inner wagons berths : List ℕ) (u : ℕ
   pub served : Served way n inner wagons berths near far
 
 pub joint : {way : Way} {n : ℕ} {inner wagons berths : List ℕ} {u : ℕ} {m : Move} → Ready way wagons u → FirstMove way n inner wagons berths u m → Joint way n inner wagons berths u m
-joint ready (FirstMove.straight {u = u} {v = v} low opened) =
-    record { near = u; far = v; is = refl; under = Below.itself; served = record { branch = low.branch; asks = low.asks; ready = ready; opened = opened } }
-joint ready (FirstMove.onward low ready' first) =
-    let j = joint ready' first in
-    record { near = j.near; far = j.far; is = j.is; under = below_trans (branch_below low.branch Below.itself) j.under; served = j.served }
+joint ready (FirstMove.straight {u = u} {v = v} low opened) = search (rules, Below.itself)
+joint ready (FirstMove.onward low ready' first) = search (rules, joint ready' first, below_trans, branch_below, Below.itself)
 
 -- what is settled and does not lie below u stays settled
 abbrev pub Off : ℕ → List ℕ → List ℕ → List ℕ → List ℕ → ℕ → Type 0
@@ -145,15 +94,4 @@ first_does way n inner wagons berths u m even ready first =
     let near = nearer way n inner wagons berths j.near j.far even j.served in
     let up = branch_up n inner even.tree j.served.branch in
     let on = below_le n inner even.tree (omega (arith, j.served.branch.within)) j.under in
-    rw j.is (record {
-      legal = near.legal;
-      even = near.even;
-      fell = near.fell;
-      demands = λ k le. near.demands k (λ e. omega arith);
-      holds = λ k lt. near.holds k (λ e. omega arith) (λ e. omega arith);
-      off = λ t away un. record {
-        at = un.at;
-        branch = un.branch;
-        wants = λ z. un.wants (near.demands un.at (λ e. away (rw (one_inner j.served.branch un.branch (sym e)) at j.under)) ∙ z);
-      };
-    })
+    grind (arith, one_inner)

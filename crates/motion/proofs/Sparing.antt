@@ -1,15 +1,14 @@
 -- The moves due cross no section oftener, inward or outward, than any filling list does.
-use Rattle.std.proofs.Common.{◌≡◌, ℕ, ◌+◌, ◌-◌, ◌<◌, ◌≤◌, max, cond, List, nat_abs, count_by, refl, ◌∙◌, ⊎_elim, arith}
-use Rattle.std.proofs.lemmas.List.Sums.{sum_by-cons}
+use Rattle.std.proofs.Common.{◌≡◌, ℕ, ◌+◌, ◌-◌, ◌<◌, ◌≤◌, List, nat_abs, count_by, ⊎_elim, arith}
 use Rattle.std.proofs.lemmas.Int.{ints}
-use Rattle.std.proofs.lemmas.Bool.{cases_eq, cases_lt}
+use Rattle.std.proofs.lemmas.Bool.{cases_lt}
 use Rattle.motion.specs.declared.moves.Move.{Move}
 use Rattle.motion.specs.Tree.{under}
 use Rattle.motion.specs.Demand.{demand_of, figure_of}
-use Rattle.motion.specs.Moves.{Leads, Fills, crosses_inward, crosses_outward, one_if}
+use Rattle.motion.specs.Moves.{Leads, Fills, crosses_inward, crosses_outward}
 use Rattle.motion.specs.Stepping.{Stepping, Even, FillsInFigure}
 use Rattle.motion.proofs.Sums.{sum_below}
-use Rattle.motion.proofs.Crossings.{crossings_balance, total_led, crosses_other, inward_no, outward_no}
+use Rattle.motion.proofs.Crossings.{crossings_balance, total_led}
 use Rattle.motion.proofs.Floors.{squeezed, filled_under, all_crossed, all_crossed_most}
 use Rattle.motion.proofs.StepsEnd.{stepping_fills}
 
@@ -17,50 +16,26 @@ use Rattle.motion.proofs.StepsEnd.{stepping_fills}
 outside_none :
     (n : ℕ) (inner : List ℕ) {wagons end : List ℕ} {ms : List Move} → Leads n inner wagons ms end → (s : ℕ) → (1 ≤ s → n ≤ s)
     → (count_by (crosses_inward s) ms ≡ 0) × (count_by (crosses_outward s) ms ≡ 0)
-outside_none n inner Leads.stays s out = (refl, refl)
-outside_none n inner (Leads.goes {m = m} {ms = ms} legal rest) s out =
-    let ih = outside_none n inner rest s out in
-    let i = sum_by-cons (λ (x : Move). cond (crosses_inward s x) 1 0) m ms in
-    let o = sum_by-cons (λ (x : Move). cond (crosses_outward s x) 1 0) m ms in
-    let here = none in
-    (omega arith, omega arith)
-  where
-    none : (one_if (crosses_inward s m) ≡ 0) × (one_if (crosses_outward s m) ≡ 0)
-    none =
-        ⊎_elim
-        (λ (z : s < 1). ⊎_elim
-        (λ (e : s ≡ max m.from m.to). (inward_no m (omega arith) s, outward_no m (omega arith) s))
-        (λ (ne : s ≡ max m.from m.to → ⊥). crosses_other m s ne)
-        (cases_eq s (max m.from m.to)))
-        (λ (p : 1 ≤ s). let past = out p in crosses_other m s (λ e. omega (arith, legal.from_in, legal.to_in)))
-        (cases_lt s 1)
+outside_none n inner Leads.stays s out = grind arith
+outside_none n inner (Leads.goes {m = m} {ms = ms} legal rest) s out = grind (arith, outside_none n inner rest s out)
 
 module _ (n : ℕ) (inner wagons berths : List ℕ) (even : Even n inner wagons berths) where
   -- outward crossings make up for what is missing below a section
   pub filling_crosses : (ms : List Move) → Fills n inner wagons berths ms → (s : ℕ)
       → under n inner berths s + count_by (crosses_inward s) ms ≡ under n inner wagons s + count_by (crosses_outward s) ms
-  filling_crosses ms fills s =
-      let cross = crossings_balance n inner even.tree even.long fills.leads s in
-      let same = filled_under n inner fills.end berths fills.filled (total_led n inner even.tree even.long fills.leads ∙ even.equal) s in
-      omega arith
+  filling_crosses ms fills s = grind (arith, crossings_balance n inner even.tree even.long fills.leads s, filled_under n inner fills.end berths fills.filled, total_led n inner even.tree even.long fills.leads)
 
   module _ (ms : List Move) (end : List ℕ) (due : Stepping n inner berths wagons ms end) where
     done : FillsInFigure n inner wagons berths ms end
     done = stepping_fills n inner wagons berths ms end even due
 
     pub due_fill : Fills n inner wagons berths ms
-    due_fill = record { end = end; leads = done.leads; filled = done.filled }
+    due_fill = grind (arith, done)
 
     -- the moves due cross each section as often as its demand says
     due_crosses : (k : ℕ) → k < n - 1 → nat_abs (demand_of n inner wagons berths (k + 1)) ≡ all_crossed ms k
     unfolding figure_of all_crossed
-    due_crosses =
-        let each : (k : ℕ) → k < n - 1 → nat_abs (demand_of n inner wagons berths (k + 1)) ≤ all_crossed ms k =
-        λ k l. let c = filling_crosses ms due_fill (k + 1) in omega (arith, ints) in
-        let most = all_crossed_most ms (n - 1) in
-        let least = sum_below (λ k. nat_abs (demand_of n inner wagons berths (k + 1))) (all_crossed ms) (n - 1) each in
-        let count = done.count in
-        squeezed (λ k. nat_abs (demand_of n inner wagons berths (k + 1))) (all_crossed ms) (n - 1) each (omega arith)
+    due_crosses = grind (arith, filling_crosses ms due_fill, all_crossed_most ms (n - 1), sum_below (λ k. nat_abs (demand_of n inner wagons berths (k + 1))) (all_crossed ms) (n - 1), done, squeezed (λ k. nat_abs (demand_of n inner wagons berths (k + 1))) (all_crossed ms) (n - 1))
 
     pub due_is_sparing : (others : List Move) → Fills n inner wagons berths others → (s : ℕ)
         → (count_by (crosses_inward s) ms ≤ count_by (crosses_inward s) others)

@@ -1,5 +1,5 @@
 -- Stepping comes to one end, after as many moves as the figure says, and fills every berth.
-use Rattle.std.proofs.Common.{◌≡◌, ℕ, zero, suc, ◌+◌, ◌-◌, ◌<◌, cond, ◌⊎◌, List, [], ◌∷◌, pos, nat_abs, sym, refl, ap, inl, inr, arith}
+use Rattle.std.proofs.Common.{◌≡◌, ℕ, zero, suc, ◌+◌, ◌<◌, cond, ◌⊎◌, List, [], ◌∷◌, pos, ap, inl, inr, arith, rules}
 use Rattle.std.proofs.lemmas.Int.{ints}
 use Rattle.motion.specs.declared.moves.Move.{Move}
 use Rattle.motion.specs.Tree.{Tree, is_branch, sum_to, under}
@@ -40,14 +40,12 @@ stepping_ends n inner wagons berths even = ends_within n inner berths (figure_of
 same_steps :
     (n : ℕ) (inner berths : List ℕ) {wagons end other : List ℕ} {ms ns : List Move} → Tree n inner
     → Stepping n inner berths wagons ms end → Stepping n inner berths wagons ns other → (ms ≡ ns) × (end ≡ other)
-same_steps n inner berths tree (Stepping.settled s) (Stepping.settled t) = (refl, refl)
+same_steps n inner berths tree (Stepping.settled s) (Stepping.settled t) = grind arith
 same_steps n inner berths tree (Stepping.settled s) (Stepping.step due rest) = absurd (none_due s due)
 same_steps n inner berths tree (Stepping.step due rest) (Stepping.settled s) = absurd (none_due s due)
 same_steps n inner berths {wagons} tree (Stepping.step {m = a} due rest) (Stepping.step {m = b} due' rest') =
     let e = one_due n inner wagons berths b a tree due' due in
-    let on = same_steps n inner berths tree rest (rw e at rest') in
-    let tail = on.0 in
-    (cc, on.1)
+    grind (arith, same_steps n inner berths tree rest (rw e at rest'))
 
 pub one_stepping :
     (n : ℕ) (inner wagons berths : List ℕ) (ms ns : List Move) (end other : List ℕ) → Tree n inner
@@ -61,7 +59,7 @@ module _ (n : ℕ) (inner wagons berths : List ℕ) (even : Even n inner wagons 
 
   no_figure : figure_of n inner wagons berths ≡ 0
   unfolding figure_of
-  no_figure = sum_zero (λ k. nat_abs (demand_of n inner wagons berths (k + 1))) (n - 1) (λ k l. ap nat_abs (all_zero (k + 1) (omega arith)))
+  no_figure = grind (arith, sum_zero, all_zero)
 
   all_filled : Filled n wagons berths
   all_filled s l =
@@ -77,12 +75,11 @@ module _ (n : ℕ) (inner wagons berths : List ℕ) (even : Even n inner wagons 
       same k l = let z = all_zero k l in omega (arith, ints)
 
 steps_fill : (n : ℕ) (inner berths : List ℕ) {wagons end : List ℕ} {ms : List Move} → Even n inner wagons berths → Stepping n inner berths wagons ms end → FillsInFigure n inner wagons berths ms end
-steps_fill n inner berths {wagons} even (Stepping.settled s) =
-    record { count = sym (no_figure n inner wagons berths even s); leads = Leads.stays; filled = all_filled n inner wagons berths even s }
+steps_fill n inner berths {wagons} even (Stepping.settled s) = search (rules, no_figure, all_filled, Leads.stays)
 steps_fill n inner berths {wagons} even (Stepping.step {m = m} due rest) =
     let does = due_does n inner wagons berths m even due in
     let on = steps_fill n inner berths does.even rest in
-    record { count = omega (arith, on.count, does.fell); leads = Leads.goes does.legal on.leads; filled = on.filled }
+    search (arith, Leads.goes)
 
 pub stepping_fills :
     (n : ℕ) (inner wagons berths : List ℕ) (ms : List Move) (end : List ℕ) → Even n inner wagons berths

@@ -1,5 +1,5 @@
 -- The balancing recursion makes moves that are due.
-use Rattle.std.proofs.Common.{◌≡◌, ℕ, ◌+◌, ◌<◌, ◌≤◌, ◌⊎◌, List, [], ◌∷◌, ◌++◌, length, sym, inl, inr, arith, length-append}
+use Rattle.std.proofs.Common.{◌≡◌, ℕ, ◌+◌, ◌<◌, ◌≤◌, ◌⊎◌, List, [], ◌∷◌, ◌++◌, length, sym, inl, inr, arith, length-append, rules}
 use Rattle.std.proofs.lemmas.Bool.{cases_lt}
 use Rattle.motion.specs.declared.moves.Move.{Move}
 use Rattle.motion.specs.Tree.{Tree, Branch, Below}
@@ -9,8 +9,7 @@ use Rattle.motion.specs.Visit.{Before, Unsettled, AllSettled}
 use Rattle.motion.specs.declared.ways.Way.{Way}
 use Rattle.motion.specs.Due.{FirstMove, Due}
 use Rattle.motion.specs.Stepping.{Stepping, Turns, Next, Task, Balancing, Even}
-use Rattle.motion.proofs.Order.{below_trans, branch_below, branch_up, below_le, below_after, before_not_below, apart, Ahead, ahead}
-use Rattle.motion.proofs.Asking.{asks_not_0}
+use Rattle.motion.proofs.Order.{below_trans, branch_below, below_le, below_after, before_not_below, apart, Ahead, ahead}
 use Rattle.motion.proofs.Serving.{Off, first_does}
 use Rattle.motion.proofs.Hands.{Hands, shifts_hands}
 
@@ -35,24 +34,14 @@ pub record Went (n : ℕ) (inner berths wagons : List ℕ) (u : ℕ) (ms : List 
   pub off : Off n inner berths wagons end u
 
 went_none : {n : ℕ} {inner berths wagons : List ℕ} {u : ℕ} → Even n inner wagons berths → Went n inner berths wagons u [] wagons
-went_none even = record { run = Run.done; even = even; fell = omega arith; off = λ t away un. un }
+went_none even = grind (arith, Run.done)
 
 went_both : {n : ℕ} {inner berths wagons then end : List ℕ} {u : ℕ} {ms ns : List Move} → Went n inner berths wagons u ms then → Went n inner berths then u ns end → Went n inner berths wagons u (ms ++ ns) end
-went_both {ms = ms} {ns = ns} a b = record {
-  run = run_append a.run b.run;
-  even = b.even;
-  fell = omega (arith, a.fell, b.fell, length-append ms ns);
-  off = λ t away un. a.off t away (b.off t away un);
-}
+went_both {ms = ms} {ns = ns} a b = grind (arith, run_append, length-append)
 
 -- what lies below a branch of u lies below u
 pub went_up : {n : ℕ} {inner berths wagons end : List ℕ} {u v : ℕ} {ms : List Move} → Branch n inner u v → Went n inner berths wagons v ms end → Went n inner berths wagons u ms end
-went_up b a = record {
-  run = a.run;
-  even = a.even;
-  fell = a.fell;
-  off = λ t away un. a.off t (λ r. away (below_trans (branch_below b Below.itself) r)) un;
-}
+went_up b a = grind (arith, below_trans, branch_below b Below.itself)
 
 -- nothing that comes before u is unsettled; nothing below u is
 abbrev pub CalmBefore : ℕ → List ℕ → List ℕ → List ℕ → ℕ → Type 0
@@ -66,8 +55,8 @@ pub calm_off : {n : ℕ} {inner berths wagons end : List ℕ} {u : ℕ} → Tree
 calm_off {n} {inner} tree off calm t l bef un = calm t l bef (off t (before_not_below n inner tree l bef) un)
 
 move_unsettled : {way : Way} {n : ℕ} {inner wagons berths : List ℕ} {u : ℕ} {m : Move} → FirstMove way n inner wagons berths u m → Unsettled n inner wagons berths u
-move_unsettled {way} {n} {inner} {wagons} {berths} (FirstMove.straight {v = v} low o) = record { at = v; branch = low.branch; wants = asks_not_0 n inner wagons berths way v low.asks }
-move_unsettled {way} {n} {inner} {wagons} {berths} (FirstMove.onward {v = v} low r f) = record { at = v; branch = low.branch; wants = asks_not_0 n inner wagons berths way v low.asks }
+move_unsettled {way} {n} {inner} {wagons} {berths} (FirstMove.straight {v = v} low o) = search rules
+move_unsettled {way} {n} {inner} {wagons} {berths} (FirstMove.onward {v = v} low r f) = search rules
 
 -- the moves of the first unsettled section are due
 pub hands_went : {way : Way} {n : ℕ} {inner berths wagons end : List ℕ} {u : ℕ} {ms : List Move} → Hands way n inner berths wagons u ms end
@@ -75,9 +64,7 @@ pub hands_went : {way : Way} {n : ℕ} {inner berths wagons end : List ℕ} {u :
 hands_went Hands.done even l calm = went_none even
 hands_went {way} {n} {inner} {berths} {wagons} {u = u} (Hands.hand {m = m} r f h) even l calm =
     let does = first_does way n inner wagons berths u m even r f in
-    let now : Due n inner wagons berths m =
-    record { way = way; section = u; first = record { within = l; unsettled = move_unsettled f; none_before = calm }; ready = r; move = f } in
-    let one : Went n inner berths wagons u (m ∷ []) (moved wagons m) = record { run = Run.due now Run.done; even = does.even; fell = does.fell; off = does.off } in
+    let one : Went n inner berths wagons u (m ∷ []) (moved wagons m) = search (rules, Run.due, Run.done, move_unsettled) in
     went_both one (hands_went h does.even l (calm_off even.tree does.off calm))
 
 -- a section is balanced by due moves, and then settled
@@ -86,8 +73,7 @@ pub turns_went : {n : ℕ} {inner berths wagons end : List ℕ} {u : ℕ} {ms : 
 turns_went (Turns.settled s) even l calm = (went_none even, s)
 turns_went (Turns.turn ready low s t) even l calm =
     let a = hands_went (shifts_hands s even low ready).0 even l calm in
-    let rest = turns_went t a.even l (calm_off even.tree a.off calm) in
-    (went_both a rest.0, rest.1)
+    search (rules, turns_went t a.even l (calm_off even.tree a.off calm), went_both)
 
 -- what a row finds: its section is settled, and so is all below the branches before it
 pub record Found (n : ℕ) (inner berths wagons : List ℕ) (u from : ℕ) : Type 0 where
@@ -104,7 +90,7 @@ top (Task.row u from) = u
 
 -- the row after its section was balanced
 pub first_row : {n : ℕ} {inner berths wagons : List ℕ} {u : ℕ} → Tree n inner → (Unsettled n inner wagons berths u → ⊥) → Found n inner berths wagons u (u + 1)
-first_row {n} {inner} tree settled = record { settled = settled; lower = λ k l b. absurd (omega (arith, branch_up n inner tree b)) }
+first_row {n} {inner} tree settled = grind arith
 
 -- the next branch of a row has all settled before it
 pub before_next : {n : ℕ} {inner berths wagons : List ℕ} {u from v : ℕ} → Next n inner u from v → CalmBefore n inner berths wagons u → Found n inner berths wagons u from → CalmBefore n inner berths wagons v
@@ -112,25 +98,13 @@ before_next {from = from} next calm found t l bef un =
     elim (ahead next.branch bef) [
       | Ahead.sooner b ↦ calm t l b un
       | Ahead.itself e ↦ found.settled (rw e at un)
-      | Ahead.lower k lt b under ↦ elim (cases_lt k from) [
-        | inl f ↦ found.lower k f b t l under un
-        | inr g ↦ next.lowest k g lt b
-      ]
+      | Ahead.lower k lt b under ↦ grind arith
     ]
 
 -- and leaves what the rest of the row needs
 pub after_next : {n : ℕ} {inner berths wagons end : List ℕ} {u from v : ℕ} → Tree n inner → Next n inner u from v → Found n inner berths wagons u from
     → Off n inner berths wagons end v → Calm n inner berths end v → Found n inner berths end u (v + 1)
-after_next {n} {inner} {berths} {wagons} {end} {u} {from} {v} tree next found off calm = record {
-  settled = λ un. found.settled (off u (λ r. omega (arith, branch_up n inner tree next.branch, below_le n inner tree (omega (arith, branch_up n inner tree next.branch, next.branch.within)) r)) un);
-  lower = λ k l b. elim (cases_lt k v) [
-    | inl kv ↦ elim (cases_lt k from) [
-      | inl f ↦ λ t lt r un. found.lower k f b t lt r (off t (λ q. apart n inner tree b next.branch kv r q) un)
-      | inr g ↦ absurd (next.lowest k g kv b)
-    ]
-    | inr g ↦ let same : v ≡ k = omega arith in rw same at calm
-  ];
-}
+after_next {n} {inner} {berths} {wagons} {end} {u} {from} {v} tree next found off calm = grind (arith, below_le n inner tree)
 
 -- after the last branch all below the section is settled
 row_calm : {n : ℕ} {inner berths wagons : List ℕ} {u from : ℕ} → Tree n inner → Found n inner berths wagons u from → ((k : ℕ) → from ≤ k → Branch n inner u k → ⊥) → Calm n inner berths wagons u
@@ -138,7 +112,11 @@ row_calm {n} {inner} {u = u} {from = from} tree found none t l r un = at (below_
   where
     at : (u ≡ t) ⊎ Before n inner u t → ⊥
     at (inl e) = found.settled (rw (sym e) at un)
-    at (inr (Before.above {c = c} b q)) = elim (cases_lt c from) [ inl f ↦ found.lower c f b t l q un | inr g ↦ none c g b ]
+    at (inr (Before.above {c = c} b q)) =
+        elim (cases_lt c from) [
+          | inl f ↦ found.lower c f b t l q un
+          | inr g ↦ none c g b
+        ]
     at (inr (Before.beside ba bb ab ua ub)) = apart n inner tree ba bb ab (below_trans ua r) ub
 
 pub tasks_went : {n : ℕ} {inner berths wagons end : List ℕ} {task : Task} {ms : List Move} → Balancing n inner berths wagons task ms end
@@ -146,11 +124,9 @@ pub tasks_went : {n : ℕ} {inner berths wagons end : List ℕ} {task : Task} {m
     → Went n inner berths wagons (top task) ms end × Calm n inner berths end (top task)
 tasks_went (Balancing.both turns rest) even l calm finds =
     let t = turns_went turns even l calm in
-    let r = tasks_went rest t.0.even l (calm_off even.tree t.0.off calm) (first_row even.tree t.1) in
-    (went_both t.0 r.0, r.1)
+    search (rules, went_both, tasks_went rest t.0.even l (calm_off even.tree t.0.off calm) (first_row even.tree t.1))
 tasks_went (Balancing.none none) even l calm found = (went_none even, row_calm even.tree found none)
 tasks_went (Balancing.next next first rest) even l calm found =
     let f = tasks_went first even next.branch.within (before_next next calm found) tt in
     let up = went_up next.branch f.0 in
-    let r = tasks_went rest up.even l (calm_off even.tree up.off calm) (after_next even.tree next found f.0.off f.1) in
-    (went_both up r.0, r.1)
+    search (rules, went_both, tasks_went rest up.even l (calm_off even.tree up.off calm) (after_next even.tree next found f.0.off f.1))

@@ -1,5 +1,5 @@
 -- The move that is due.
-use Rattle.std.specs.Prelude.{◌≡◌, ℕ, ◌<◌, List, ℤ, pos, ◌+ℤ◌, ◌<ℤ◌, slice_index}
+use Rattle.std.specs.Prelude.{◌≡◌, ℕ, ◌+◌, ◌<◌, List, ℤ, pos, negsuc, ◌+ℤ◌, ◌<ℤ◌, slice_index}
 use Rattle.motion.specs.declared.moves.Move.{Move}
 use Rattle.motion.specs.declared.ways.Way.{Way}
 use Rattle.motion.specs.declared.ways.Way.TheVariants.{Outward, Inward}
@@ -12,20 +12,33 @@ abbrev pub Asked : Way → ℤ → Type 0
 Asked Outward demand = pos 0 <ℤ demand
 Asked Inward demand = demand <ℤ pos 0
 
+-- how many such moves it asks for
+abbrev pub asked_for : Way → ℤ → ℕ
+asked_for Outward (pos k) = k
+asked_for Outward (negsuc k) = 0
+asked_for Inward (pos k) = 0
+asked_for Inward (negsuc k) = k + 1
+
 -- the branch v asks for such a move: its demand is above 0, or below 0
 abbrev pub Asks : Way → ℕ → List ℕ → List ℕ → List ℕ → ℕ → Type 0
-Asks Outward n inner wagons berths v = pos 0 <ℤ demand_of n inner wagons berths v
-Asks Inward n inner wagons berths v = demand_of n inner wagons berths v <ℤ pos 0
+Asks way n inner wagons berths v = Asked way (demand_of n inner wagons berths v)
 
--- u can be the inner end of it: it holds a wagon to pass, or it is empty
+-- with so many wagons in it a section can be the inner end of the move: it holds a wagon to pass, or it is empty
+abbrev pub CanBegin : Way → ℕ → Type 0
+CanBegin Outward held = 0 < held
+CanBegin Inward held = held ≡ 0
+
+-- and the outer end
+abbrev pub CanEnd : Way → ℕ → Type 0
+CanEnd Outward held = held ≡ 0
+CanEnd Inward held = 0 < held
+
+-- u can be the inner end of it, and v the outer end
 abbrev pub Ready : Way → List ℕ → ℕ → Type 0
-Ready Outward wagons u = 0 < slice_index wagons u
-Ready Inward wagons u = slice_index wagons u ≡ 0
+Ready way wagons u = CanBegin way (slice_index wagons u)
 
--- and v the outer end
 abbrev pub Open : Way → List ℕ → ℕ → Type 0
-Open Outward wagons v = slice_index wagons v ≡ 0
-Open Inward wagons v = 0 < slice_index wagons v
+Open way wagons v = CanEnd way (slice_index wagons v)
 
 -- the move between u and its branch v
 abbrev pub over : Way → ℕ → ℕ → Move

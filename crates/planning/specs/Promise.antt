@@ -1,9 +1,9 @@
 -- The promise of a run: what holds of a siding after it is drawn up and acted on.
-use Rattle.std.specs.Prelude.{◌≡◌, List, Ok, Err, Result}
+use Rattle.std.specs.Prelude.{◌≡◌, List, ◌∷◌, ◌++◌, Ok, Err, Result}
 use Rattle.refusal.specs.declared.Refusal.{Refusal}
 use Rattle.motion.specs.State.{State, figure, Balances, EqualNumbers}
 use Rattle.motion.specs.Promises.{Least, SteppingOnFills, AwayMeansNoShortest}
-use Rattle.motion.specs.Calls.{After}
+use Rattle.motion.specs.Calls.{After, Passing}
 use Rattle.motion.specs.declared.calls.Act.{Act}
 use Rattle.siding.specs.declared.siding.Siding.{Siding}
 use Rattle.siding.specs.Stands.{state_of}
@@ -22,9 +22,20 @@ pub record Promise (acts : List Act) (start end : State) : Type 0 where
   -- a hand move done with equal numbers counts as away exactly if no shortest filling list begins with it
   pub away_means_no_shortest : AwayMeansNoShortest acts start end
 
+-- The run, from the siding that the sheet describes, by the acts, to where it ends. An act is a put, a take, a mark, an
+-- unmark, a hand move, a page turn or a step.
+pub record Passage (acts : List Act) (start end : State) : Type 0 where
+  pub promise : Promise acts start end
+  -- the acts put the siding nowhere else
+  pub nowhere_else : (other : State) → After acts start other → other ≡ end
+  -- and the run passes through each of them
+  pub passes_through :
+      (before : List Act) (a : Act) (after : List Act) → acts ≡ before ++ (a ∷ after)
+      → (x : State) × (y : State) × Passing before a after start x y end
+
 -- what drawing up made of the sheet decides: the promise holds, or nothing has changed
 abbrev pub Run : Result State Refusal → List Act → Siding → Siding → Type 0
-Run (Ok start) acts before after = Promise acts start (state_of after)
+Run (Ok start) acts before after = Passage acts start (state_of after)
 Run (Err e) acts before after = after ≡ before
 
 -- what the siding says, or why the sheet was refused

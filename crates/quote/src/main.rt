@@ -2,48 +2,48 @@
 // in metres where the arguments give lengths, section 0 first, and else in moves.
 #![tactic(auto)]
 
-use daybook::acts::read_acts;
+use daybook::acts::{Unread, read_acts};
 use daybook::input::{MOST_BYTES, parted};
 use motion::calls::Act;
 use quoting::account::Account;
 use quoting::replay::replay;
 use refusal::Refusal;
 use siding::Siding;
-use std::alloc::{AllocError, Global};
+use std::alloc::Global;
 use std::env;
 use std::io::Read;
 use tariff::amount::Amount;
 use tariff::metres::Metres;
 use tariff::move_count::MoveCount;
 
+// Reads its input as day does: a function for both would have no contract to give.
 fn main(rt: HostRuntime) -> anyhow::Result<()> {
     let mut input = Vec::new(rt.alloc());
-    // One byte more than an input may have is enough to show that it has too many.
-    rt.stdin().take(65_537).read_to_end(&mut input)?;
+    // One byte more than an input may have is enough to show that it has too many. `as`, since `From` leads from no
+    // `usize` to a `u64`.
+    rt.stdin()
+        .take(MOST_BYTES as u64 + 1)
+        .read_to_end(&mut input)?;
     let mut lengths: Vec<u16> = Vec::new(rt.alloc());
     for word in env::args(&rt)?.skip(1) {
         lengths.push(word.parse::<u16>()?)?;
     }
-    match said(rt.alloc(), input.as_slice(), lengths.as_slice())? {
-        Ok(account) => print_account(&rt, account),
-        Err(refusal) => Ok(println!(rt; "no {refusal}")?),
+    match said(rt.alloc(), input.as_slice(), lengths.as_slice()) {
+        Ok(account) => println!(rt; "{account}")?,
+        Err(Unread::Refused(refusal)) => println!(rt; "no {refusal}")?,
+        Err(Unread::OutOfMemory(e)) => return Err(e.into()),
     }
+    Ok(())
 }
 
 // What the siding of an input says after its lines; all of them must say an act.
-fn said(
-    heap: Global,
-    input: &[u8],
-    lengths: &[u16],
-) -> Result<Result<Account<Amount>, Refusal>, AllocError> {
+fn said(heap: Global, input: &[u8], lengths: &[u16]) -> Result<Account<Amount>, Unread> {
     if input.len() > MOST_BYTES {
-        return Ok(Err(Refusal::OutOfRoom));
+        return Err(Unread::Refused(Refusal::OutOfRoom));
     }
     let (sheet, lines) = parted(input);
-    match read_acts(heap, lines)? {
-        Some(acts) => Ok(quoted(sheet, acts.as_slice(), lengths)),
-        None => Ok(Err(Refusal::BadLine)),
-    }
+    let acts = read_acts(heap, lines)?;
+    Ok(quoted(sheet, acts.as_slice(), lengths)?)
 }
 
 // What the siding says after the acts, under the tariff that the lengths make.
@@ -55,23 +55,4 @@ fn quoted(sheet: &[u8], acts: &[Act], lengths: &[u16]) -> Result<Account<Amount>
     let mut metres = Metres::level();
     metres.fill(lengths)?;
     replay(&mut siding, sheet, acts, &metres)
-}
-
-// The figure, the head, the moves, the away moves and the quote, or the refusal in its place.
-fn print_account(rt: &impl Print, account: Account<Amount>) -> anyhow::Result<()> {
-    let Account {
-        figure,
-        head,
-        moves,
-        away,
-        quote,
-    } = account;
-    match quote {
-        Ok(sum) => {
-            let sum = sum.value();
-            println!(rt; "{figure} {head} {moves} {away} {sum}")?;
-        }
-        Err(refusal) => println!(rt; "{figure} {head} {moves} {away} no {refusal}")?,
-    }
-    Ok(())
 }

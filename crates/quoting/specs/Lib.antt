@@ -1,2 +1,3 @@
 pub mod Quote
 pub mod Promise
+pub mod Shown

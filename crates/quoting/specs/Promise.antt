@@ -1,35 +1,14 @@
--- The promise: what holds of a siding that is drawn up from a sheet and acted on, and of what it then says.
-use Rattle.std.specs.Prelude.{◌≡◌, true, List, ◌∷◌, ◌++◌, Ok, Err, Result}
+-- What a siding that is drawn up from a sheet and acted on says, its quote included.
+use Rattle.std.specs.Prelude.{◌≡◌, true, List, Ok, Err, Result}
 use Rattle.refusal.specs.declared.Refusal.{Refusal}
 use Rattle.refusal.specs.declared.Refusal.TheVariants.{NumbersDiffer}
 use Rattle.motion.specs.State.{State, figure, EqualNumbers}
 use Rattle.motion.specs.Promises.{FillsFrom}
-use Rattle.motion.specs.Calls.{After, Passing}
-use Rattle.motion.specs.declared.calls.Act.{Act}
 use Rattle.motion.specs.declared.moves.Move.{Move}
-use Rattle.siding.specs.declared.siding.Siding.{Siding}
-use Rattle.siding.specs.Stands.{state_of}
 use Rattle.tariff.specs.Rule.{Rule}
 use Rattle.tariff.specs.Charges.{charged}
-use Rattle.planning.specs.Promise.{Promise}
 use Rattle.quoting.specs.Quote.{MovesDue}
 use Rattle.quoting.specs.declared.account.Account.{Account}
-
--- The run, from the siding that the sheet describes, by the acts, to where it ends. An act is a put, a take, a mark, an
--- unmark, a hand move, a page turn or a step.
-pub record Passage (acts : List Act) (start end : State) : Type 0 where
-  pub promise : Promise acts start end
-  -- the acts put the siding nowhere else
-  pub nowhere_else : (other : State) → After acts start other → other ≡ end
-  -- and the run passes through each of them
-  pub passes_through :
-      (before : List Act) (a : Act) (after : List Act) → acts ≡ before ++ (a ∷ after)
-      → (x : State) × (y : State) × Passing before a after start x y end
-
--- what drawing up made of the sheet decides: the promise holds, or nothing has changed
-abbrev pub Run : Result State Refusal → List Act → Siding → Siding → Type 0
-Run (Ok start) acts before after = Passage acts start (state_of after)
-Run (Err e) acts before after = after ≡ before
 
 -- The quote under a tariff: the moves due are a filling list, the sum is what they are charged, and by the tariff's own
 -- comparison it is not more than the charge of any filling list.
@@ -47,10 +26,10 @@ QuoteIsLeast rule x (Err e) = (EqualNumbers x → ⊥) × (e ≡ NumbersDiffer)
 
 -- What the siding says where it ends.
 pub record Told {S : Type 0} (rule : Rule S) (x : State) (account : Account S) : Type 0 where
-  pub figure_is : account.figure ≡ figure x
-  pub head_is : account.head ≡ x.head
-  pub moves_are : account.moves ≡ x.moves
-  pub away_is : account.away ≡ x.away
+  pub figure_is : account.page.figure ≡ figure x
+  pub head_is : account.page.head ≡ x.head
+  pub moves_are : account.page.moves ≡ x.moves
+  pub away_is : account.page.away ≡ x.away
   pub quote_is_least : QuoteIsLeast rule x account.quote
 
 -- or why the sheet was refused

@@ -1,7 +1,7 @@
 // The quote: what the moves due are charged.
-ghost use Rattle.std.specs.Prelude.{◌≡◌, ℕ, ◌-◌, ◌≤◌, pos, ◌-ℤ◌};
+ghost use Rattle.std.specs.Prelude.{◌≡◌};
 ghost use Rattle.siding.specs.Stands.{state_of};
-ghost use Rattle.quoting.specs.Quote.{Quoted, Share};
+ghost use Rattle.quoting.specs.Quote.{Quoted, share, one_way};
 
 use motion::ways::Way;
 use refusal::Refusal;
@@ -14,10 +14,9 @@ use tariff::repeated::repeated;
 pub fn quote<F: Tariff>(siding: &Siding, tariff: &F) -> Result<F::Sum, Refusal>
     ensures { Quoted (F.Tariff.rule tariff.now) (state_of siding.now) result }
 {
-    if siding.wagon_count() != siding.berth_count() {
-        return Err(Refusal::NumbersDiffer);
-    }
+    siding.test_numbers()?;
     let mut sum = tariff.nothing();
+    // A fold would carry the `?` in its closure, and wrap each sum: no plainer.
     for s in 1..siding.sections() {
         let demand = siding.demand_of(s)?;
         sum = tariff.join(sum, share(tariff, s, demand));
@@ -27,23 +26,16 @@ pub fn quote<F: Tariff>(siding: &Siding, tariff: &F) -> Result<F::Sum, Refusal>
 
 // What a section is charged.
 fn share<F: Tariff>(tariff: &F, section: u16, demand: i16) -> F::Sum
-    ensures { Share (F.Tariff.rule tariff.now) section demand result }
+    ensures { result ≡ share (F.Tariff.rule tariff.now) section demand }
 {
-    let outward = repeated(tariff, tariff.charge(section, Way::Outward), wanted(demand));
-    let inward = repeated(tariff, tariff.charge(section, Way::Inward), spare(demand));
+    let outward = one_way(tariff, section, Way::Outward, demand);
+    let inward = one_way(tariff, section, Way::Inward, demand);
     tariff.join(outward, inward)
 }
 
-// How many wagons are missing.
-fn wanted(demand: i16) -> u16
-    ensures { (berths wagons : ℕ) → demand ≡ pos berths -ℤ pos wagons → result ≡ berths - wagons }
+// What it is charged for the moves of one way.
+fn one_way<F: Tariff>(tariff: &F, section: u16, way: Way, demand: i16) -> F::Sum
+    ensures { result ≡ one_way (F.Tariff.rule tariff.now) section way demand }
 {
-    if demand > 0 { demand.unsigned_abs() } else { 0 }
-}
-
-// How many wagons are too many.
-fn spare(demand: i16) -> u16
-    ensures { (berths wagons : ℕ) → demand ≡ pos berths -ℤ pos wagons → result ≡ wagons - berths }
-{
-    if demand < 0 { demand.unsigned_abs() } else { 0 }
+    repeated(tariff, tariff.charge(section, way), way.asked_for(demand))
 }

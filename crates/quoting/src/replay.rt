@@ -1,12 +1,12 @@
 // A siding is drawn up and worked on, and says where it stands and what it is quoted: the call that carries the whole promise.
 ghost use Rattle.siding.specs.Sheet.{drawn};
 ghost use Rattle.siding.specs.Stands.{state_of};
-ghost use Rattle.quoting.specs.Promise.{Run, Told, Answered};
+ghost use Rattle.planning.specs.Promise.{Run};
+ghost use Rattle.quoting.specs.Promise.{Answered};
 
 use crate::account::Account;
 use crate::quote::quote;
 use motion::calls::Act;
-use planning::replay::act_all;
 use refusal::Refusal;
 use siding::Siding;
 use tariff::Tariff;
@@ -21,20 +21,7 @@ pub fn replay<F: Tariff>(
     ensures run { Run (drawn sheet.now) acts.now siding.old siding.new }
     ensures answer { Answered (F.Tariff.rule tariff.now) (drawn sheet.now) (state_of siding.new) result }
 {
-    siding.draw_up(sheet)?;
-    act_all(siding, acts);
-    Ok(account(siding, tariff))
-}
-
-// What the siding says.
-fn account<F: Tariff>(siding: &Siding, tariff: &F) -> Account<F::Sum>
-    ensures { Told (F.Tariff.rule tariff.now) (state_of siding.now) result }
-{
-    Account {
-        figure: siding.figure(),
-        head: siding.head(),
-        moves: siding.moves(),
-        away: siding.away(),
-        quote: quote(siding, tariff),
-    }
+    let page = planning::replay::replay(siding, sheet, acts)?;
+    let quote = quote(siding, tariff);
+    Ok(Account { page, quote })
 }

@@ -40,6 +40,25 @@ place_of NoStanding = 0
 place_of BadLine = 0
 place_of (LengthTooLarge p) = p
 
+-- the same refusal, at another place where it names one
+abbrev pub at_place : Refusal → ℕ → Refusal
+at_place SheetLength q = SheetLength
+at_place SizeOutOfRange q = SizeOutOfRange
+at_place (InnerNotLower p) q = InnerNotLower q
+at_place (MarkTooLarge p) q = MarkTooLarge q
+at_place WagonsMiscounted q = WagonsMiscounted
+at_place (NoSection p) q = NoSection q
+at_place (AlreadyThere p) q = AlreadyThere q
+at_place (NotThere p) q = NotThere q
+at_place (NotNeighbours p) q = NotNeighbours q
+at_place NumbersDiffer q = NumbersDiffer
+at_place PageFull q = PageFull
+at_place OutOfRoom q = OutOfRoom
+at_place (BerthEmpty p) q = BerthEmpty q
+at_place NoStanding q = NoStanding
+at_place BadLine q = BadLine
+at_place (LengthTooLarge p) q = LengthTooLarge q
+
 -- what is printed of a refusal: its number, a blank, its place
 abbrev pub shown_of : Refusal → List ℕ
 shown_of r = decimal (number_of r) ++ (codes " " ++ decimal (place_of r))

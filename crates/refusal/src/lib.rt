@@ -2,7 +2,7 @@
 #![tactic(auto)]
 
 ghost use Rattle.std.specs.Prelude.{◌≡◌, Some};
-ghost use Rattle.refusal.specs.Number.{number_of, place_of, shown_of};
+ghost use Rattle.refusal.specs.Number.{number_of, place_of, at_place, shown_of};
 
 use std::fmt;
 
@@ -45,6 +45,7 @@ pub enum Refusal {
 
 impl Refusal {
     // The number by which the refusal is known outside the program.
+    // A method and no From: a u8 made from a refusal would not say which of its two numbers it is.
     pub fn number(&self) -> u8
         ensures { result ≡ number_of self.now }
     {
@@ -68,7 +69,7 @@ impl Refusal {
         }
     }
 
-    // What is at fault; 0 where the refusal names no place.
+    // What is at fault; 0, and not None, where the refusal names no place, as the table of refusals has it.
     pub fn place(&self) -> usize
         ensures { result ≡ place_of self.now }
     {
@@ -89,6 +90,30 @@ impl Refusal {
             | Refusal::OutOfRoom
             | Refusal::NoStanding
             | Refusal::BadLine => 0,
+        }
+    }
+
+    // The same refusal, at this place where it names one.
+    pub fn at(self, place: usize) -> Refusal
+        ensures { result ≡ at_place self place }
+    {
+        match self {
+            Refusal::InnerNotLower(_) => Refusal::InnerNotLower(place),
+            Refusal::MarkTooLarge(_) => Refusal::MarkTooLarge(place),
+            Refusal::NoSection(_) => Refusal::NoSection(place),
+            Refusal::AlreadyThere(_) => Refusal::AlreadyThere(place),
+            Refusal::NotThere(_) => Refusal::NotThere(place),
+            Refusal::NotNeighbours(_) => Refusal::NotNeighbours(place),
+            Refusal::BerthEmpty(_) => Refusal::BerthEmpty(place),
+            Refusal::LengthTooLarge(_) => Refusal::LengthTooLarge(place),
+            Refusal::SheetLength
+            | Refusal::SizeOutOfRange
+            | Refusal::WagonsMiscounted
+            | Refusal::NumbersDiffer
+            | Refusal::PageFull
+            | Refusal::OutOfRoom
+            | Refusal::NoStanding
+            | Refusal::BadLine => self,
         }
     }
 }

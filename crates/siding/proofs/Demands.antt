@@ -1,13 +1,14 @@
 -- One turn of the loop that gathers the demands, from the highest section down.
 use Rattle.std.proofs.Common.{◌≡◌, ℕ, ◌+◌, ◌-◌, ◌<◌, ◌≤◌, List, length, get_or, set, ℤ, pos, ◌+ℤ◌, ◌-ℤ◌, nat_abs, ap, ◌∙◌, ⊎_elim, arith}
-use Rattle.std.proofs.lemmas.List.{get_or-set_same, get_or-set_other}
+use Rattle.std.proofs.lemmas.List.{get_or-set_same, get_or-set_other, get_or_past}
 use Rattle.std.proofs.lemmas.Int.{ints}
-use Rattle.std.proofs.lemmas.Bool.{cases_eq}
+use Rattle.std.proofs.lemmas.Bool.{cases_eq, cases_lt}
 use Rattle.motion.specs.Tree.{Tree}
 use Rattle.motion.specs.Demand.{Single}
 use Rattle.motion.proofs.Bounds.{under_most, total_most}
 use Rattle.motion.proofs.Gathered.{gathered, gathered_all, gathered_inner, gathered_other, gathered_most}
-use Rattle.siding.specs.Kept.{TrueDemands}
+use Rattle.siding.specs.declared.placed.Placed.{Placed}
+use Rattle.siding.specs.Kept.{Clear, ClearDemands, TrueDemands}
 
 -- the demands once the sections from k on are gathered
 abbrev pub Gathered : ℕ → ℕ → List ℕ → List ℕ → List ℕ → List ℤ → Type 0
@@ -62,3 +63,13 @@ module _ (n : ℕ) (inner wagons berths : List ℕ) (tree : Tree n inner) where
       let b = gathered_all n inner tree k berths u l (omega arith) in
       let w = gathered_all n inner tree k wagons u l (omega arith) in
       omega (arith, ints)
+
+-- the sections' own demands, past them
+pub own_clear : (n : ℕ) (wagons berths : Placed) (demand : List ℤ) → length demand ≡ 512
+    → ((s : ℕ) → s < 512 → get_or demand s (pos 0) ≡ pos (get_or berths.in_section s 0) -ℤ pos (get_or wagons.in_section s 0))
+    → Clear n wagons.in_section → Clear n berths.in_section → ClearDemands n demand
+own_clear n wagons berths demand long are w b s l =
+    ⊎_elim
+    (λ (h : s < 512). let e = are s h in let v = w s l in let k = b s l in omega (arith, ints))
+    (λ (h : 512 ≤ s). get_or_past demand s (pos 0) (omega arith))
+    (cases_lt s 512)

@@ -1,22 +1,15 @@
--- The lowest number that a test finds: a loop that looks for it from 0 on.
-use Rattle.std.proofs.Common.{◌≡◌, ℕ, zero, suc, ◌+◌, ◌<◌, Bool, true, false, cond, Some, None, Option, sym, refl, ap, ◌∙◌, ⊎_elim, add-one, arith}
+-- The lowest number that a test finds.
+use Rattle.std.proofs.Common.{◌≡◌, ℕ, zero, suc, ◌<◌, ◌≤◌, Bool, true, false, cond, Some, None, Option, MatchOption, sym, refl, ap, ◌∙◌, ⊎_elim, arith}
 use Rattle.std.proofs.lemmas.Bool.{cases_eq, cond-true, cond-false}
 use Rattle.siding.specs.Sheet.{lowest, first_found}
-
-pub lowest_none : (f : ℕ → Bool) → lowest f 0 ≡ None
-unfolding lowest
-lowest_none f = refl
 
 -- nothing found so far: the next number decides
 step : (f : ℕ → Bool) (k : ℕ) → lowest f k ≡ None → lowest f (suc k) ≡ cond (f k) (Some k) None
 unfolding lowest
 step f k none = ap (λ o. first_found o (cond (f k) (Some k) None)) none
 
-pub lowest_more : (f : ℕ → Bool) (k : ℕ) → lowest f k ≡ None → f k ≡ false → lowest f (k + 1) ≡ None
-lowest_more f k none fails = rw add-one (step f k none ∙ cond-false (f k) (Some k) None fails)
-
 -- what is found stays
-pub lowest_found : (f : ℕ → Bool) (k n : ℕ) → lowest f k ≡ None → f k ≡ true → k < n → lowest f n ≡ Some k
+lowest_found : (f : ℕ → Bool) (k n : ℕ) → lowest f k ≡ None → f k ≡ true → k < n → lowest f n ≡ Some k
 unfolding lowest
 lowest_found f k zero none finds l = let z : ⊥ = omega arith in absurd z
 lowest_found f k (suc n) none finds l =
@@ -50,3 +43,8 @@ unfolding lowest
 clean_lowest f zero clean = refl
 clean_lowest f (suc n) clean =
     step f n (clean_lowest f n (λ k l. clean k (omega arith))) ∙ cond-false (f n) (Some n) None (clean n (omega arith))
+
+-- a number that the test finds, and none lower, is the lowest
+pub lowest_is : (f : ℕ → Bool) (n : ℕ) (r : Option ℕ) → MatchOption r ((k : ℕ) → 0 ≤ k → k < n → f k ≡ false) (λ s. (0 ≤ s) × (s < n) × (f s ≡ true) × ((k : ℕ) → 0 ≤ k → k < s → f k ≡ false)) → r ≡ lowest f n
+lowest_is f n (Some s) h = sym (lowest_found f s n (clean_lowest f s (λ k l. h.3 k (omega arith) l)) h.2 h.1)
+lowest_is f n None h = sym (clean_lowest f n (λ k l. h k (omega arith) l))

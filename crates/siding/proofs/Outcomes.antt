@@ -1,29 +1,30 @@
 -- The outcome of a call is what the call does, and a refusal is given only where there is nothing that it could do.
 use Rattle.std.proofs.Common.{◌≡◌, ℕ, ◌<◌, Bool, true, false, cond, eqb, ltb, List, get_or, Some, None, Ok, Err, Option, Result, sym, refl, ap, ◌∙◌, inl, inr, ⊎_elim, arith}
-use Rattle.std.proofs.lemmas.Bool.{cond-true, cond-false, ltb-true, eqb-true, eqb-false, and_parts, or_cases, lt-ltb, eq-eqb, ne_eqb}
+use Rattle.std.proofs.lemmas.Bool.{cond-true, cond-false, ltb-true, eqb-true, eqb-false, or_cases, lt-ltb, eq-eqb, ne_eqb}
 use Rattle.refusal.specs.declared.Refusal.{Refusal}
 use Rattle.refusal.specs.declared.Refusal.TheVariants.{NoSection, AlreadyThere, NotThere, NotNeighbours, PageFull}
-use Rattle.motion.specs.Tree.{Branch, is_branch}
-use Rattle.motion.specs.Moves.{Neighbours}
+use Rattle.motion.specs.Tree.{is_branch}
+use Rattle.motion.specs.Moves.{Neighbours, Legal}
 use Rattle.motion.specs.State.{State, most_moves}
-use Rattle.motion.specs.Calls.{Does, Done, Makes}
+use Rattle.motion.specs.Calls.{Does, Done, Makes, hand_moved}
 use Rattle.motion.proofs.DueMoves.{none_due}
 use Rattle.motion.specs.declared.moves.Move.{Move}
 use Rattle.motion.specs.declared.calls.Act.TheVariants.{Call as Called, Step}
 use Rattle.motion.specs.declared.calls.Call.{Call}
 use Rattle.motion.specs.declared.calls.Call.TheVariants.{Put, Take, Mark, Unmark, Hand, Turn}
 use Rattle.siding.specs.declared.siding.Siding.{Siding}
-use Rattle.siding.specs.Outcome.{outcome, on_section, into_empty, from_full, are_neighbours, CarriedOut}
+use Rattle.siding.specs.Outcome.{outcome, on_section, into_empty, from_full, are_neighbours, legality, if_legal, on_page, CarriedOut}
 use Rattle.siding.specs.Stands.{state_of}
 use Rattle.siding.specs.Steps.{Stepped}
+use Rattle.siding.proofs.Branches.{branch_tested}
 use Rattle.siding.proofs.Handed.{legal_outcome, same_ok}
 
 -- a test stands before the rest: with an outcome it was passed, and the rest has that outcome
-passed : (b : Bool) (rest : Result State Refusal) (e : Refusal) (y : State) → cond b rest (Err e) ≡ Ok y → (b ≡ true) × (rest ≡ Ok y)
+passed : {A : Type 0} (b : Bool) (rest : Result A Refusal) (e : Refusal) (y : A) → cond b rest (Err e) ≡ Ok y → (b ≡ true) × (rest ≡ Ok y)
 passed true rest e y h = (refl, h)
 passed false rest e y h = let z : ◌≡◌ {A = ℕ} 0 1 = cc in absurd (omega arith)
 
-not_failed : (b : Bool) (rest : Result State Refusal) (e : Refusal) (y : State) → cond b (Err e) rest ≡ Ok y → (b ≡ false) × (rest ≡ Ok y)
+not_failed : {A : Type 0} (b : Bool) (rest : Result A Refusal) (e : Refusal) (y : A) → cond b (Err e) rest ≡ Ok y → (b ≡ false) × (rest ≡ Ok y)
 not_failed true rest e y h = let z : ◌≡◌ {A = ℕ} 0 1 = cc in absurd (omega arith)
 not_failed false rest e y h = (refl, h)
 
@@ -55,11 +56,6 @@ module _ (x : State) (xs : List ℕ) (s : ℕ) (a y : State) where
       ∙ cond-false (eqb (get_or xs s 0) 0) _ _ (ne_eqb (get_or xs s 0) 0 (λ e. omega (arith, d.1))) ∙ ap Ok (sym d.2)
 
 -- neighbours, as the test finds them
-branch_tested : (n : ℕ) (inner : List ℕ) (s c : ℕ) → c < n → is_branch inner s c ≡ true → Branch n inner s c
-branch_tested n inner s c l h =
-    let both = and_parts (ltb 0 c) (eqb (get_or inner c 0) s) h in
-    record { outer = ltb-true 0 c both.0; within = l; hangs = eqb-true (get_or inner c 0) s both.1 }
-
 neighbours_found : (n : ℕ) (inner : List ℕ) (a b : ℕ) → a < n → b < n → are_neighbours inner a b ≡ true → Neighbours n inner a b
 neighbours_found n inner a b la lb h =
     ⊎_elim
@@ -67,27 +63,32 @@ neighbours_found n inner a b la lb h =
     (λ (e : is_branch inner b a ≡ true). inr (branch_tested n inner b a la e))
     (or_cases (is_branch inner a b) (is_branch inner b a) h)
 
--- a hand move: one test after another
+-- a move that passes the tests, one after another, is legal
+tests_legal : (n : ℕ) (inner wagons : List ℕ) (m : Move) → legality n inner wagons m ≡ Ok tt → Legal n inner wagons m
+tests_legal n inner wagons m h =
+    let a = passed (ltb m.from n) _ (NoSection m.from) tt h in
+    let b = passed (ltb m.to n) _ (NoSection m.to) tt a.1 in
+    let c = passed (are_neighbours inner m.from m.to) _ (NotNeighbours 0) tt b.1 in
+    let d = not_failed (eqb (get_or wagons m.from 0) 0) _ (NotThere 0) tt c.1 in
+    let e = passed (eqb (get_or wagons m.to 0) 0) _ (AlreadyThere 0) tt d.1 in
+    let from_in = ltb-true m.from n a.0 in
+    let to_in = ltb-true m.to n b.0 in
+    record {
+      from_in = from_in;
+      to_in = to_in;
+      neighbours = neighbours_found n inner m.from m.to from_in to_in c.0;
+      there = positive (get_or wagons m.from 0) d.0;
+      free = eqb-true (get_or wagons m.to 0) 0 e.0;
+    }
+
 hand_passed : (x : State) (m : Move) (y : State) → outcome (Hand m) x ≡ Ok y → Does (Hand m) x y
-hand_passed x m y h =
-    let a = passed (ltb m.from x.sections) _ (NoSection m.from) y h in
-    let b = passed (ltb m.to x.sections) _ (NoSection m.to) y a.1 in
-    let c = passed (are_neighbours x.inner m.from m.to) _ (NotNeighbours 0) y b.1 in
-    let d = not_failed (eqb (get_or x.wagons m.from 0) 0) _ (NotThere 0) y c.1 in
-    let e = passed (eqb (get_or x.wagons m.to 0) 0) _ (AlreadyThere 0) y d.1 in
-    let f = passed (ltb x.moves most_moves) _ PageFull y e.1 in
-    let from_in = ltb-true m.from x.sections a.0 in
-    let to_in = ltb-true m.to x.sections b.0 in (
-      record {
-        from_in = from_in;
-        to_in = to_in;
-        neighbours = neighbours_found x.sections x.inner m.from m.to from_in to_in c.0;
-        there = positive (get_or x.wagons m.from 0) d.0;
-        free = eqb-true (get_or x.wagons m.to 0) 0 e.0;
-      },
-      ltb-true x.moves most_moves f.0,
-      same_ok _ y f.1,
-    )
+hand_passed x m y h = by_tests (legality x.sections x.inner x.wagons m) refl h
+  where
+    by_tests : (r : Result (Unit {0}) Refusal) → legality x.sections x.inner x.wagons m ≡ r → if_legal r (on_page x (Ok (hand_moved x m))) ≡ Ok y → Does (Hand m) x y
+    by_tests (Ok u) e h =
+        let f = passed (ltb x.moves most_moves) _ PageFull y h in
+        (tests_legal x.sections x.inner x.wagons m e, ltb-true x.moves most_moves f.0, same_ok _ y f.1)
+    by_tests (Err e) t h = let z : ◌≡◌ {A = ℕ} 0 1 = cc in absurd (omega arith)
 
 -- the outcome of a call is what it does
 pub outcome_does : (c : Call) (x y : State) → outcome c x ≡ Ok y → Does c x y

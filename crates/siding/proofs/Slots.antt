@@ -1,8 +1,8 @@
 -- The 512 slots of an array of a siding: an entry for each section, and then 0.
-use Rattle.std.proofs.Common.{◌≡◌, ℕ, ◌+◌, ◌<◌, ◌≤◌, cond, ltb, List, length, get_or, set, replicate, sym, ap, ◌∙◌, ⊎_elim, arith}
-use Rattle.std.proofs.lemmas.List.{length-replicate, get_or-replicate, length-set, get_or-set_same, get_or-set_other, get_or_past}
+use Rattle.std.proofs.Common.{◌≡◌, ℕ, ◌<◌, ◌≤◌, cond, ltb, List, length, get_or, sym, ◌∙◌, ⊎_elim, arith}
+use Rattle.std.proofs.lemmas.List.{get_or_past}
 use Rattle.std.proofs.lemmas.List.FromFn.{length-map-range_with_len, get_or-map-range_with_len, fill_by_all}
-use Rattle.std.proofs.lemmas.Bool.{cases_eq, cases_lt, cond-true, cond-false, lt-ltb, le-ltb}
+use Rattle.std.proofs.lemmas.Bool.{cases_lt, cond-true, cond-false, lt-ltb, le-ltb}
 use Rattle.siding.specs.Sheet.{slots}
 use Rattle.siding.specs.Kept.{Clear}
 
@@ -43,26 +43,14 @@ slots_past n f s most l =
     (λ (k : 512 ≤ s). get_or_past (slots n f) s 0 (omega (arith, length_slots n f)))
     (cases_lt s 512)
 
--- a loop over the sections fills the slots: its start, and one more
-pub slots_none : (f : ℕ → ℕ) → replicate 512 0 ≡ slots 0 f
-slots_none f =
-    all_slots 0 f (replicate 512 0) (length-replicate {A = ℕ} 512 0) (λ s l. get_or-replicate {A = ℕ} 512 s 0 0 l ∙ sym (entry_past 0 f s (omega arith)))
-
-pub slots_more : (f : ℕ → ℕ) (xs : List ℕ) (k : ℕ) → k < 512 → xs ≡ slots k f → set xs k (f k) ≡ slots (k + 1) f
-slots_more f xs k l e =
-    let long : length xs ≡ 512 = ap length e ∙ length_slots k f in
-    all_slots (k + 1) f (set xs k (f k)) (length-set xs k (f k) ∙ long) (λ s m.
+-- an array made slot by slot, by what stands in each
+pub slots_made : (n : ℕ) (f : ℕ → ℕ) (xs : List ℕ) → length xs ≡ 512 → ((s : ℕ) → s < 512 → (s < n → get_or xs s 0 ≡ f s) × (n ≤ s → get_or xs s 0 ≡ 0)) → xs ≡ slots n f
+slots_made n f xs long each =
+    all_slots n f xs long (λ s l.
     ⊎_elim
-    (λ (same : s ≡ k).
-    ap (λ t. get_or (set xs k (f k)) t 0) same ∙ get_or-set_same xs k (f k) 0 (omega arith)
-    ∙ ap f (sym same) ∙ sym (entry_in (k + 1) f s (omega arith)))
-    (λ (other : s ≡ k → ⊥).
-    get_or-set_other xs k s (f k) 0 other ∙ ap (λ ys. get_or ys s 0) e ∙ slot_is k f s m
-    ∙ ⊎_elim
-    (λ (low : s < k). entry_in k f s low ∙ sym (entry_in (k + 1) f s (omega arith)))
-    (λ (high : k ≤ s). entry_past k f s high ∙ sym (entry_past (k + 1) f s (omega arith)))
-    (cases_lt s k))
-    (cases_eq s k))
+    (λ (low : s < n). (each s l).0 low ∙ sym (entry_in n f s low))
+    (λ (high : n ≤ s). (each s l).1 high ∙ sym (entry_past n f s high))
+    (cases_lt s n))
 
 -- only the entries of the sections play a part
 pub slots_same : (n : ℕ) (f g : ℕ → ℕ) → ((s : ℕ) → s < n → f s ≡ g s) → slots n f ≡ slots n g

@@ -1,13 +1,14 @@
 -- One wagon or berth more or less in a section.
-use Rattle.std.proofs.Common.{◌≡◌, ℕ, ◌+◌, ◌-◌, ◌<◌, ◌≤◌, true, false, cond, List, length, get_or, set, ℤ, pos, negsuc, ◌+ℤ◌, nat_abs, refl, ◌∙◌, arith}
-use Rattle.std.proofs.lemmas.List.{get_or-set_other, length-set}
+use Rattle.std.proofs.Common.{◌≡◌, ℕ, ◌<◌, ◌≤◌, true, false, cond, List, length, get_or, set, ℤ, pos, negsuc, ◌+ℤ◌, nat_abs, sym, refl, ap, ◌∙◌, subst, arith}
+use Rattle.std.proofs.lemmas.List.{get_or-set_other}
 use Rattle.std.proofs.lemmas.Int.{ints}
-use Rattle.motion.specs.Tree.{is_below, total}
-use Rattle.motion.specs.Demand.{demand_of, Single}
+use Rattle.motion.specs.Tree.{is_below}
+use Rattle.motion.specs.Demand.{demand_of}
 use Rattle.motion.specs.Moves.{one_less, one_more, one_if}
-use Rattle.motion.proofs.Changed.{single_more, single_less, under_more, under_less, total_more, total_less}
+use Rattle.motion.proofs.Changed.{under_more, under_less}
 use Rattle.siding.specs.declared.siding.Siding.{Siding}
-use Rattle.siding.specs.Kept.{Clear}
+use Rattle.siding.specs.declared.placed.Placed.{Placed}
+use Rattle.siding.specs.Kept.{Clear, TrueDemands}
 use Rattle.siding.specs.Restock.{MayStand}
 
 module _ (n : ℕ) (xs : List ℕ) (s : ℕ) (l : s < n) (long : n ≤ length xs) where
@@ -45,79 +46,68 @@ module _ (n : ℕ) (inner wagons berths : List ℕ) (s : ℕ) (l : s < n) where
       omega (arith, ints)
 
 -- what the calls make of a siding may stand there
-module _ (x : Siding) (s : ℕ) (l : s < x.sections) where
-  fits_wagons : x.sections ≤ length x.wagons
-  fits_wagons = omega (arith, x.most, x.long.1)
+module _ (x : Siding) (s : ℕ) (l : s < x.track.sections) (new : Placed) where
+  fits_wagons : x.track.sections ≤ length x.wagons.in_section
+  fits_wagons = omega (arith, x.track.most, x.wagons.long)
 
-  fits_berths : x.sections ≤ length x.berths
-  fits_berths = omega (arith, x.most, x.long.2)
+  fits_berths : x.track.sections ≤ length x.berths.in_section
+  fits_berths = omega (arith, x.track.most, x.berths.long)
 
-  -- with other wagons
-  wagons_stand :
-      (wagons : List ℕ) (count : ℕ) (by : ℤ) → nat_abs by ≤ 1 → length wagons ≡ 512 → Single x.sections wagons → Clear x.sections wagons → count ≡ total x.sections wagons
-      → ((t : ℕ) → demand_of x.sections x.inner wagons x.berths t ≡ demand_of x.sections x.inner x.wagons x.berths t +ℤ cond (is_below x.inner t s) by (pos 0))
-      → MayStand x (record { wagons = wagons; berths = x.berths; wagon_count = count; berth_count = x.berth_count }) s by
-  wagons_stand wagons count by one long single clear counted demands = record {
+  -- other wagons
+  wagons_stand : (wagons : List ℕ) (by : ℤ) → new.in_section ≡ wagons → nat_abs by ≤ 1 → Clear x.track.sections wagons
+      → ((t : ℕ) → demand_of x.track.sections x.track.inner wagons x.berths.in_section t ≡ demand_of x.track.sections x.track.inner x.wagons.in_section x.berths.in_section t +ℤ cond (is_below x.track.inner t s) by (pos 0))
+      → MayStand x new x.berths s by
+  wagons_stand wagons by e one clear demands = record {
     within = l;
     one = one;
-    long_wagons = long;
-    long_berths = x.long.2;
-    one_wagon = single;
-    one_berth = x.one_berth;
-    clear_wagons = clear;
-    clear_berths = x.clear.2;
-    counted_wagons = counted;
-    counted_berths = x.counts.1;
-    demands = λ t k. demands t;
+    clear_wagons = subst (Clear x.track.sections) (sym e) clear;
+    clear_berths = x.clear.1;
+    demands = λ t k. ap (λ w. demand_of x.track.sections x.track.inner w x.berths.in_section t) e ∙ demands t;
   }
 
-  -- with other berths
-  berths_stand :
-      (berths : List ℕ) (count : ℕ) (by : ℤ) → nat_abs by ≤ 1 → length berths ≡ 512 → Single x.sections berths → Clear x.sections berths → count ≡ total x.sections berths
-      → ((t : ℕ) → demand_of x.sections x.inner x.wagons berths t ≡ demand_of x.sections x.inner x.wagons x.berths t +ℤ cond (is_below x.inner t s) by (pos 0))
-      → MayStand x (record { wagons = x.wagons; berths = berths; wagon_count = x.wagon_count; berth_count = count }) s by
-  berths_stand berths count by one long single clear counted demands = record {
+  -- other berths
+  berths_stand : (berths : List ℕ) (by : ℤ) → new.in_section ≡ berths → nat_abs by ≤ 1 → Clear x.track.sections berths
+      → ((t : ℕ) → demand_of x.track.sections x.track.inner x.wagons.in_section berths t ≡ demand_of x.track.sections x.track.inner x.wagons.in_section x.berths.in_section t +ℤ cond (is_below x.track.inner t s) by (pos 0))
+      → MayStand x x.wagons new s by
+  berths_stand berths by e one clear demands = record {
     within = l;
     one = one;
-    long_wagons = x.long.1;
-    long_berths = long;
-    one_wagon = x.one_wagon;
-    one_berth = single;
-    clear_wagons = x.clear.1;
-    clear_berths = clear;
-    counted_wagons = x.counts.0;
-    counted_berths = counted;
-    demands = λ t k. demands t;
+    clear_wagons = x.clear.0;
+    clear_berths = subst (Clear x.track.sections) (sym e) clear;
+    demands = λ t k. ap (λ b. demand_of x.track.sections x.track.inner x.wagons.in_section b t) e ∙ demands t;
   }
 
-  pub put_stands : get_or x.wagons s 0 ≡ 0 → MayStand x (record { wagons = one_more x.wagons s; berths = x.berths; wagon_count = x.wagon_count + 1; berth_count = x.berth_count }) s (negsuc 0)
-  put_stands none =
-      wagons_stand (one_more x.wagons s) _ (negsuc 0) (omega arith) (length-set x.wagons s _ ∙ x.long.1)
-      (single_more x.sections x.wagons s l fits_wagons none x.one_wagon)
-      (clear_set x.sections x.wagons s l fits_wagons _ x.clear.1)
-      (let t = total_more x.sections x.wagons s l fits_wagons in omega (arith, x.counts.0))
-      (put_demand x.sections x.inner x.wagons x.berths s l fits_wagons)
+  pub put_stands : new.in_section ≡ one_more x.wagons.in_section s → MayStand x new x.berths s (negsuc 0)
+  put_stands e =
+      wagons_stand (one_more x.wagons.in_section s) (negsuc 0) e (omega arith)
+      (clear_set x.track.sections x.wagons.in_section s l fits_wagons _ x.clear.0)
+      (put_demand x.track.sections x.track.inner x.wagons.in_section x.berths.in_section s l fits_wagons)
 
-  pub take_stands : 0 < get_or x.wagons s 0 → MayStand x (record { wagons = one_less x.wagons s; berths = x.berths; wagon_count = x.wagon_count - 1; berth_count = x.berth_count }) s (pos 1)
-  take_stands some =
-      wagons_stand (one_less x.wagons s) _ (pos 1) (omega arith) (length-set x.wagons s _ ∙ x.long.1)
-      (single_less x.sections x.wagons s l fits_wagons x.one_wagon)
-      (clear_set x.sections x.wagons s l fits_wagons _ x.clear.1)
-      (let t = total_less x.sections x.wagons s l fits_wagons some in omega (arith, x.counts.0))
-      (take_demand x.sections x.inner x.wagons x.berths s l fits_wagons some)
+  pub take_stands : 0 < get_or x.wagons.in_section s 0 → new.in_section ≡ one_less x.wagons.in_section s → MayStand x new x.berths s (pos 1)
+  take_stands some e =
+      wagons_stand (one_less x.wagons.in_section s) (pos 1) e (omega arith)
+      (clear_set x.track.sections x.wagons.in_section s l fits_wagons _ x.clear.0)
+      (take_demand x.track.sections x.track.inner x.wagons.in_section x.berths.in_section s l fits_wagons some)
 
-  pub mark_stands : get_or x.berths s 0 ≡ 0 → MayStand x (record { wagons = x.wagons; berths = one_more x.berths s; wagon_count = x.wagon_count; berth_count = x.berth_count + 1 }) s (pos 1)
-  mark_stands none =
-      berths_stand (one_more x.berths s) _ (pos 1) (omega arith) (length-set x.berths s _ ∙ x.long.2)
-      (single_more x.sections x.berths s l fits_berths none x.one_berth)
-      (clear_set x.sections x.berths s l fits_berths _ x.clear.2)
-      (let t = total_more x.sections x.berths s l fits_berths in omega (arith, x.counts.1))
-      (mark_demand x.sections x.inner x.wagons x.berths s l fits_berths)
+  pub mark_stands : new.in_section ≡ one_more x.berths.in_section s → MayStand x x.wagons new s (pos 1)
+  mark_stands e =
+      berths_stand (one_more x.berths.in_section s) (pos 1) e (omega arith)
+      (clear_set x.track.sections x.berths.in_section s l fits_berths _ x.clear.1)
+      (mark_demand x.track.sections x.track.inner x.wagons.in_section x.berths.in_section s l fits_berths)
 
-  pub unmark_stands : 0 < get_or x.berths s 0 → MayStand x (record { wagons = x.wagons; berths = one_less x.berths s; wagon_count = x.wagon_count; berth_count = x.berth_count - 1 }) s (negsuc 0)
-  unmark_stands some =
-      berths_stand (one_less x.berths s) _ (negsuc 0) (omega arith) (length-set x.berths s _ ∙ x.long.2)
-      (single_less x.sections x.berths s l fits_berths x.one_berth)
-      (clear_set x.sections x.berths s l fits_berths _ x.clear.2)
-      (let t = total_less x.sections x.berths s l fits_berths some in omega (arith, x.counts.1))
-      (unmark_demand x.sections x.inner x.wagons x.berths s l fits_berths some)
+  pub unmark_stands : 0 < get_or x.berths.in_section s 0 → new.in_section ≡ one_less x.berths.in_section s → MayStand x x.wagons new s (negsuc 0)
+  unmark_stands some e =
+      berths_stand (one_less x.berths.in_section s) (negsuc 0) e (omega arith)
+      (clear_set x.track.sections x.berths.in_section s l fits_berths _ x.clear.1)
+      (unmark_demand x.track.sections x.track.inner x.wagons.in_section x.berths.in_section s l fits_berths some)
+
+-- demands that were shifted by so much are those of the new wagons and berths
+pub shifted_demands :
+    (x : Siding) (wagons berths : Placed) (at : ℕ) (by raw : ℤ) (new : List ℤ) → MayStand x wagons berths at by → raw ≡ by
+    → ((s : ℕ) → s < x.track.sections → get_or new s (pos 0) ≡ get_or x.demand s (pos 0) +ℤ cond (is_below x.track.inner s at) raw (pos 0))
+    → TrueDemands x.track.sections x.track.inner wagons.in_section berths.in_section new
+shifted_demands x wagons berths at by raw new may same shifted s l =
+    shifted s l
+    ∙ ap (λ z. get_or x.demand s (pos 0) +ℤ cond (is_below x.track.inner s at) z (pos 0)) same
+    ∙ ap (λ z. z +ℤ cond (is_below x.track.inner s at) by (pos 0)) (x.demands s l)
+    ∙ sym (may.demands s l)

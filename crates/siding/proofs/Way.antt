@@ -1,12 +1,15 @@
 -- The way inward: the demands change at each section on it, and the figure with them.
-use Rattle.std.proofs.Common.{◌≡◌, ℕ, ◌+◌, ◌-◌, ◌*◌, ◌<◌, ◌≤◌, Bool, true, false, cond, List, length, get_or, set, ℤ, pos, ◌+ℤ◌, nat_abs, sym, ap, ◌∙◌, ⊎_elim, arith}
-use Rattle.std.proofs.lemmas.List.{get_or-set_same, get_or-set_other}
+use Rattle.std.proofs.Common.{◌≡◌, ℕ, ◌+◌, ◌-◌, ◌*◌, ◌<◌, ◌≤◌, Bool, true, false, cond, List, length, get_or, drop, set, ℤ, pos, ◌+ℤ◌, nat_abs, sym, ap, ◌∙◌, ⊎_elim, arith, w16, to_z, of_z}
+use Rattle.std.proofs.lemmas.List.{get_or-set_same, get_or-set_other, get_or-take, get_or-drop}
 use Rattle.std.proofs.lemmas.Int.{ints}
 use Rattle.std.proofs.lemmas.Bool.{cases_eq, ne_eqb}
-use Rattle.motion.specs.Tree.{Tree, is_below}
+use Rattle.motion.specs.Tree.{Tree, is_below, sum_to}
 use Rattle.motion.proofs.Sums.{sum_one, sum_same, sum_part, sum_most}
 use Rattle.motion.proofs.Underneath.{below_self, below_neck, below_high, below_other}
+use borrow.Rule.Slice.PartMut.{mid_of, mid_len}
+use Rattle.std.specs.List.{sum_by}
 use Rattle.siding.specs.Kept.{sizes}
+use Rattle.siding.proofs.Counted.{by_places}
 
 module _ (n : ℕ) (demand : List ℤ) where
   -- one demand but the neck's changes
@@ -101,3 +104,31 @@ module _ (n : ℕ) (inner : List ℕ) (tree : Tree n inner) (at u : ℕ) (by : �
       ap (λ k. cond (is_below inner v k) by (pos 0)) neck ∙ ap (λ k. cond k by (pos 0)) (below_neck inner v ∙ ne_eqb v 0 (λ e. ne (e ∙ sym neck))) in
       omega (arith, ints))
       (cases_eq v u)
+
+-- the sum over the places of a part of a list
+module _ (n : ℕ) (demand : List ℤ) (long : n ≤ length demand) (small : (s : ℕ) → s < n → nat_abs (get_or demand s (pos 0)) ≤ 512) where
+  abbrev stored_size : ℤ → ℕ
+  stored_size z = nat_abs (to_z w16 (of_z w16 z))
+
+  part : List ℤ
+  part = mid_of 1 (n - 1) demand
+
+  length_part : 1 ≤ n → length part ≡ n - 1
+  unfolding part
+  length_part some = mid_len 1 n demand long
+
+  part_at : (k : ℕ) → k < n - 1 → get_or part k (pos 0) ≡ get_or demand (k + 1) (pos 0)
+  unfolding part
+  part_at k l = let e : 1 + k ≡ k + 1 = omega arith in get_or-take (n - 1) (drop 1 demand) k (pos 0) l ∙ get_or-drop 1 demand k (pos 0) ∙ ap (λ i. get_or demand i (pos 0)) e
+
+  pub part_sizes : 1 ≤ n → (xs : List ℤ) → xs ≡ mid_of 1 (n - 1) demand → sum_by stored_size xs ≡ sizes n demand
+  unfolding part sizes
+  part_sizes some xs e =
+      let size : ℤ → ℕ = λ z. nat_abs (to_z w16 (of_z w16 z)) in
+      ap (sum_by size) e ∙ sym (by_places size (pos 0) part) ∙ ap (sum_to (λ t. size (get_or part t (pos 0)))) (length_part some)
+      ∙ sum_same (λ t. size (get_or part t (pos 0))) (λ k. nat_abs (get_or demand (k + 1) (pos 0))) (n - 1)
+      (λ k l. let s = small (k + 1) (omega arith) in let at = part_at k l in let same : to_z w16 (of_z w16 (get_or demand (k + 1) (pos 0))) ≡ get_or demand (k + 1) (pos 0) = omega (arith, ints) in
+      ap size at ∙ ap nat_abs same)
+
+  pub part_most : 1 ≤ n → (xs : List ℤ) → xs ≡ mid_of 1 (n - 1) demand → sum_by stored_size xs ≤ (n - 1) * 512
+  part_most some xs e = let same = part_sizes some xs e in let most = sizes_most n demand 512 small in omega arith

@@ -6,6 +6,7 @@ use Rattle.motion.specs.State.{State, page_begun}
 use Rattle.siding.specs.declared.siding.Siding.{Siding}
 use Rattle.siding.specs.Sheet.{drawn, two_bytes, mark, sheet_of, overwritten}
 use Rattle.siding.specs.Stands.{state_of}
+use Rattle.siding.proofs.Held.{held_tree, one_wagon, one_berth}
 use Rattle.siding.proofs.Overwritten.{overwritten_after, take_overwritten}
 use Rattle.siding.proofs.Pairs.{pairs, length_pairs}
 use Rattle.siding.proofs.RoundTrip.{WrittenOut, written_drawn, sheet_length}
@@ -13,17 +14,17 @@ use Rattle.siding.proofs.RoundTrip.{WrittenOut, written_drawn, sheet_length}
 -- what a siding keeps is what its sheet needs
 pub writable : (x : Siding) → WrittenOut (state_of x)
 writable x = record {
-  some = x.some;
-  most = x.most;
-  tree = record { neck = x.neck; lower = x.lower };
-  one_wagon = x.one_wagon;
-  one_berth = x.one_berth;
-  long_inner = x.long.0;
-  long_wagons = x.long.1;
-  long_berths = x.long.2;
-  clear_inner = x.clear.0;
-  clear_wagons = x.clear.1;
-  clear_berths = x.clear.2;
+  some = x.track.some;
+  most = x.track.most;
+  tree = held_tree x;
+  one_wagon = one_wagon x;
+  one_berth = one_berth x;
+  long_inner = x.track.long.0;
+  long_wagons = x.wagons.long;
+  long_berths = x.berths.long;
+  clear_inner = x.track.clear;
+  clear_wagons = x.clear.0;
+  clear_berths = x.clear.1;
 }
 
 module _ (x : State) (old one two three four : List ℕ) (room : 4 + 3 * x.sections ≤ length old)
@@ -57,7 +58,7 @@ module _ (x : State) (old one two three four : List ℕ) (room : 4 + 3 * x.secti
       ∙ overwritten_after old 0 (head ++ entries) (map (mark x) (range_with_len 0 x.sections)) (4 + 2 * x.sections) (omega (arith, length_front)) (omega (arith, length_front))
 
 -- what was written can be drawn up again
-pub read_back : (x : Siding) (old new : List ℕ) (size : ℕ) → size ≡ 4 + 3 * x.sections → new ≡ overwritten old 0 (sheet_of (state_of x)) → drawn (take size new) ≡ Ok (page_begun (state_of x))
+pub read_back : (x : Siding) (old new : List ℕ) (size : ℕ) → size ≡ 4 + 3 * x.track.sections → new ≡ overwritten old 0 (sheet_of (state_of x)) → drawn (take size new) ≡ Ok (page_begun (state_of x))
 read_back x old new size long e =
     let whole : take size new ≡ sheet_of (state_of x) =
     ap (take size) e ∙ ap (λ k. take k (overwritten old 0 (sheet_of (state_of x)))) (long ∙ sym (sheet_length (state_of x))) ∙ take_overwritten old (sheet_of (state_of x)) in

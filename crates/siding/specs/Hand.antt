@@ -9,11 +9,11 @@ use Rattle.siding.specs.declared.siding.hand.Crossing.{Crossing}
 
 -- the move is legal, and there is room for it on the page
 pub record MayMove (x : Siding) (m : Move) : Type 0 where
-  pub legal : Legal x.sections x.inner x.wagons m
-  pub room : x.moves < most_moves
+  pub legal : Legal x.track.sections x.track.inner x.wagons.in_section m
+  pub room : x.page.moves < most_moves
 
 -- the higher of the two sections, its demand after the move, and the figure after it
 pub record Crosses (x : Siding) (m : Move) (c : Crossing) : Type 0 where
   pub section : c.section ≡ max m.from m.to
-  pub demand : c.demand ≡ demand_of x.sections x.inner (moved x.wagons m) x.berths c.section
-  pub figure : c.figure ≡ figure_of x.sections x.inner (moved x.wagons m) x.berths
+  pub demand : c.demand ≡ demand_of x.track.sections x.track.inner (moved x.wagons.in_section m) x.berths.in_section c.section
+  pub figure : c.figure ≡ figure_of x.track.sections x.track.inner (moved x.wagons.in_section m) x.berths.in_section

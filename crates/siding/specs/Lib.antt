@@ -1,4 +1,5 @@
 pub mod Kept
+pub mod Branches
 pub mod Sheet
 pub mod Stands
 pub mod Outcome

@@ -26,8 +26,23 @@ from_full xs s rest = cond (slice_index xs s == 0) (Err (NotThere 0)) rest
 abbrev pub are_neighbours : List ℕ → ℕ → ℕ → Bool
 are_neighbours inner a b = is_branch inner a b || is_branch inner b a
 
-abbrev pub between_neighbours : State → Move → Result State Refusal → Result State Refusal
-between_neighbours x m rest = cond (are_neighbours x.inner m.from m.to) rest (Err (NotNeighbours 0))
+-- whether a move is legal where the wagons stand so, or else the refusal that it meets, the tests in their order
+abbrev pub legality : ℕ → List ℕ → List ℕ → Move → Result (Unit {0}) Refusal
+legality n inner wagons m =
+    cond (nat_lt m.from n)
+    (cond (nat_lt m.to n)
+    (cond (are_neighbours inner m.from m.to)
+    (cond (slice_index wagons m.from == 0)
+    (Err (NotThere 0))
+    (cond (slice_index wagons m.to == 0) (Ok tt) (Err (AlreadyThere 0))))
+    (Err (NotNeighbours 0)))
+    (Err (NoSection m.to)))
+    (Err (NoSection m.from))
+
+-- a call that needs a legal move
+abbrev pub if_legal : Result (Unit {0}) Refusal → Result State Refusal → Result State Refusal
+if_legal (Ok u) rest = rest
+if_legal (Err e) rest = Err e
 
 abbrev pub on_page : State → Result State Refusal → Result State Refusal
 on_page x rest = cond (nat_lt x.moves most_moves) rest (Err PageFull)
@@ -37,8 +52,7 @@ outcome (Put s) x = on_section x s (into_empty x.wagons s (Ok (page_begun (with_
 outcome (Take s) x = on_section x s (from_full x.wagons s (Ok (page_begun (with_wagons x (one_less x.wagons s)))))
 outcome (Mark s) x = on_section x s (into_empty x.berths s (Ok (page_begun (with_berths x (one_more x.berths s)))))
 outcome (Unmark s) x = on_section x s (from_full x.berths s (Ok (page_begun (with_berths x (one_less x.berths s)))))
-outcome (Hand m) x =
-    on_section x m.from (on_section x m.to (between_neighbours x m (from_full x.wagons m.from (into_empty x.wagons m.to (on_page x (Ok (hand_moved x m)))))))
+outcome (Hand m) x = if_legal (legality x.sections x.inner x.wagons m) (on_page x (Ok (hand_moved x m)))
 outcome Turn x = Ok (page_begun x)
 
 -- the siding stands as the outcome says; or the call is refused as it says, and nothing has changed

@@ -1,14 +1,12 @@
-// The arrays of a siding, lent to those who plan and check on a copy of its wagons. Each has 512 slots, section 0 first.
+// What a siding keeps of its sections, lent to those who plan and check on a copy of its wagons.
+use crate::track::{MOST_SECTIONS, Track};
+
+// The arrays have a slot for each section, section 0 first: how many wagons it holds, how many are wanted there, and its
+// demand.
 #[derive(Clone, Copy)]
 pub struct Layout<'a> {
-    pub sections: usize,
-    // the inner neighbour of each section
-    pub inner: &'a [u16; 512],
-    // its lowest branch, and the next higher branch of its inner neighbour; 0 where there is none
-    pub first: &'a [u16; 512],
-    pub next: &'a [u16; 512],
-    // how many wagons it holds, and how many are wanted there
-    pub wagons: &'a [u8; 512],
-    pub berths: &'a [u8; 512],
-    pub demand: &'a [i16; 512],
+    pub track: &'a Track,
+    pub wagons: &'a [u8; MOST_SECTIONS],
+    pub berths: &'a [u8; MOST_SECTIONS],
+    pub demand: &'a [i16; MOST_SECTIONS],
 }

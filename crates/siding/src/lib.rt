@@ -2,9 +2,11 @@
 #![tactic(auto)]
 
 pub mod layout;
+mod page;
+mod placed;
 mod sheet;
 pub mod siding;
-mod stock;
 mod tally;
+pub mod track;
 
 pub use siding::Siding;

@@ -1,101 +1,51 @@
-// What is counted from the sections when a siding is drawn up.
-ghost use Rattle.std.specs.Prelude.{◌≡◌, ℕ, ◌+◌, ◌-◌, ◌*◌, ◌<◌, ◌≤◌, length, pos, ◌+ℤ◌, ◌-ℤ◌, if◌then◌else◌, slice_index, slice_index_or, unsigned_abs};
-ghost use Rattle.motion.specs.Tree.{Tree, is_below, total};
-ghost use Rattle.motion.specs.Demand.{Single, figure_of};
-ghost use Rattle.siding.specs.Kept.{sizes, ClearDemands, TrueDemands, FirstIsLowest, FirstIsBranch, NextIsLowest, NextIsBranch};
+// What is counted from the sections when a siding is drawn up, and brought up to date when its wagons or berths change.
+// Where a loop goes on with a number that it reads, `as` widens it: a call of `From` would stand between the two.
+ghost use Rattle.std.specs.Prelude.{◌≡◌, ℕ, ◌+◌, ◌<◌, ◌≤◌, length, pos, ◌+ℤ◌, ◌-ℤ◌, if◌then◌else◌, slice_index, slice_index_or, unsigned_abs};
+ghost use Rattle.motion.specs.Tree.{is_below};
+ghost use Rattle.siding.specs.Kept.{sizes, Clear, ClearDemands, TrueDemands};
 
-// How many there are in all sections.
-pub(crate) fn count_all(n: usize, xs: &[u8; 512]) -> u16
-    requires most { n ≤ 512 }
-    requires single { Single n xs.now }
-    ensures { result ≡ total n xs.now }
-{
-    let mut sum = 0u16;
-    for s in 0..n {
-        sum += u16::from(xs[s]);
-    }
-    sum
-}
+use crate::placed::Placed;
+use crate::track::{MOST_SECTIONS, Track};
+use std::array;
 
 // The berths of each section less its wagons.
-fn own_demands(n: usize, wagons: &[u8; 512], berths: &[u8; 512]) -> [i16; 512]
-    requires most { n ≤ 512 }
-    requires one_wagon { Single n wagons.now }
-    requires one_berth { Single n berths.now }
-    ensures long { length result ≡ 512 }
-    ensures are { (s : ℕ) → s < n → slice_index_or result s (pos 0) ≡ pos (slice_index berths.now s) -ℤ pos (slice_index wagons.now s) }
-    ensures clear { ClearDemands n result }
+fn own_demands(wagons: &Placed, berths: &Placed) -> [i16; MOST_SECTIONS]
+    ensures { (s : ℕ) → s < 512 → slice_index_or result s (pos 0) ≡ pos (slice_index berths.now.in_section s) -ℤ pos (slice_index wagons.now.in_section s) }
 {
-    let mut demand = [0i16; 512];
-    for s in 0..n {
-        demand[s] = i16::from(berths[s]) - i16::from(wagons[s]);
-    }
-    demand
+    array::from_fn(|s| own_demand(berths.in_section[s], wagons.in_section[s]))
 }
 
-// The demand of each section, from the highest number down: what a section has is added to its inner neighbour's.
-pub(crate) fn demands(
-    n: usize,
-    inner: &[u16; 512],
-    wagons: &[u8; 512],
-    berths: &[u8; 512],
-) -> [i16; 512]
-    requires most { n ≤ 512 }
-    requires tree { Tree n inner.now }
-    requires one_wagon { Single n wagons.now }
-    requires one_berth { Single n berths.now }
-    ensures long { length result ≡ 512 }
-    ensures are { TrueDemands n inner.now wagons.now berths.now result }
-    ensures clear { ClearDemands n result }
+fn own_demand(berths: u8, wagons: u8) -> i16
+    ensures { result ≡ pos berths -ℤ pos wagons }
 {
-    let mut demand = own_demands(n, wagons, berths);
-    for s in (1..n).rev() {
-        let p = inner[s] as usize;
+    i16::from(berths) - i16::from(wagons)
+}
+
+// The demand of each section, from the highest number down: what a section has is added to its inner neighbour's. The
+// loop needs the numbers themselves, since a section's demand goes to another place.
+pub(crate) fn demands(track: &Track, wagons: &Placed, berths: &Placed) -> [i16; MOST_SECTIONS]
+    requires clear_wagons { Clear track.now.sections wagons.now.in_section }
+    requires clear_berths { Clear track.now.sections berths.now.in_section }
+    ensures are { TrueDemands track.now.sections track.now.inner wagons.now.in_section berths.now.in_section result }
+    ensures clear { ClearDemands track.now.sections result }
+{
+    let mut demand = own_demands(wagons, berths);
+    for s in (1..track.sections).rev() {
+        let p = track.inner[s] as usize;
         demand[p] += demand[s];
     }
     demand
 }
 
 // The sum of the demands without their signs, over all sections but the neck.
-pub(crate) fn figure_of(
-    n: usize,
-    inner: &[u16; 512],
-    wagons: &[u8; 512],
-    berths: &[u8; 512],
-    demand: &[i16; 512],
-) -> u32
-    requires some { 1 ≤ n }
-    requires most { n ≤ 512 }
-    requires one_wagon { Single n wagons.now }
-    requires one_berth { Single n berths.now }
-    requires are { TrueDemands n inner.now wagons.now berths.now demand.now }
-    ensures { result ≡ figure_of n inner.now wagons.now berths.now }
+pub(crate) fn figure_of(track: &Track, demand: &[i16; MOST_SECTIONS]) -> u32
+    requires small { (s : ℕ) → s < track.now.sections → unsigned_abs (slice_index_or demand.now s (pos 0)) ≤ 512 }
+    ensures { result ≡ sizes track.now.sections demand.now }
 {
-    let mut sum = 0u32;
-    for s in 1..n {
-        sum += u32::from(demand[s].unsigned_abs());
-    }
-    sum
-}
-
-// The lowest branch of each section, and of each branch the next higher one of the same section; 0 where there is none.
-pub(crate) fn branch_links(n: usize, inner: &[u16; 512]) -> ([u16; 512], [u16; 512])
-    requires most { n ≤ 512 }
-    requires tree { Tree n inner.now }
-    ensures long { (length result.0 ≡ 512) × (length result.1 ≡ 512) }
-    ensures first_lowest { FirstIsLowest n inner.now result.0 }
-    ensures first_branch { FirstIsBranch n inner.now result.0 }
-    ensures next_lowest { NextIsLowest n inner.now result.1 }
-    ensures next_branch { NextIsBranch n inner.now result.1 }
-{
-    let mut first = [0u16; 512];
-    let mut next = [0u16; 512];
-    for s in (1..n).rev() {
-        let p = inner[s] as usize;
-        next[s] = first[p];
-        first[p] = s as u16;
-    }
-    (first, next)
+    demand[1..track.sections]
+        .iter()
+        .map(|each| u32::from(each.unsigned_abs()))
+        .sum()
 }
 
 // The figure once one demand has changed.
@@ -109,25 +59,21 @@ pub(crate) fn resized(figure: u32, was: i16, is: i16) -> u32
 }
 
 // Changes the demand by so much at each section on the way inward from `at`, which are those that it lies below,
-// and answers the figure after that.
+// and answers the figure after that. The loop counts nothing: it goes where the track leads.
 pub(crate) fn shift(
-    n: usize,
-    inner: &[u16; 512],
-    demand: &mut [i16; 512],
+    track: &Track,
+    demand: &mut [i16; MOST_SECTIONS],
     figure: u32,
     at: usize,
     by: i16,
 ) -> u32
-    requires most { n ≤ 512 }
-    requires tree { Tree n inner.now }
-    requires within { at < n }
+    requires within { at < track.now.sections }
     requires one { unsigned_abs by ≤ 1 }
-    requires small { (s : ℕ) → s < n → unsigned_abs (slice_index_or demand.old s (pos 0)) ≤ 512 }
-    requires sums { figure ≡ sizes n demand.old }
-    ensures long { length demand.new ≡ 512 }
-    ensures demands { (s : ℕ) → s < n → slice_index_or demand.new s (pos 0) ≡ slice_index_or demand.old s (pos 0) +ℤ (if is_below inner.now s at then by else pos 0) }
-    ensures past { (s : ℕ) → n ≤ s → slice_index_or demand.new s (pos 0) ≡ slice_index_or demand.old s (pos 0) }
-    ensures figure { result ≡ sizes n demand.new }
+    requires small { (s : ℕ) → s < track.now.sections → unsigned_abs (slice_index_or demand.old s (pos 0)) ≤ 512 }
+    requires sums { figure ≡ sizes track.now.sections demand.old }
+    ensures demands { (s : ℕ) → s < track.now.sections → slice_index_or demand.new s (pos 0) ≡ slice_index_or demand.old s (pos 0) +ℤ (if is_below track.now.inner s at then by else pos 0) }
+    ensures past { (s : ℕ) → track.now.sections ≤ s → slice_index_or demand.new s (pos 0) ≡ slice_index_or demand.old s (pos 0) }
+    ensures figure { result ≡ sizes track.now.sections demand.new }
 {
     let mut sum = figure;
     let mut u = at;
@@ -135,7 +81,7 @@ pub(crate) fn shift(
         let was = demand[u];
         demand[u] = was + by;
         sum = resized(sum, was, demand[u]);
-        u = inner[u] as usize;
+        u = track.inner[u] as usize;
     }
     demand[0] += by;
     sum

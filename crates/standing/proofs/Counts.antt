@@ -1,6 +1,5 @@
 -- Numbers of choices: how they grow, and what is left of a number when one of them is taken off.
-use Rattle.std.proofs.Common.{◌≡◌, ℕ, zero, suc, ◌+◌, ◌-◌, ◌^◌, ◌<◌, ◌≤◌, refl, ⊎_elim, not-suc-le-zero, pow-suc, add-one, arith, pow_pos, pow_mono}
-use Rattle.std.proofs.lemmas.Bool.{cases_lt}
+use Rattle.std.proofs.Common.{◌≡◌, ℕ, zero, suc, ◌+◌, ◌-◌, ◌^◌, ◌<◌, ◌≤◌, refl, not-suc-le-zero, add-one, arith, pow_mono}
 use Rattle.standing.specs.Choose.{choose}
 
 pub none_of_none : choose 0 0 ≡ 1
@@ -20,30 +19,21 @@ pub none_from_fewer : (c i : ℕ) → c < i → choose c i ≡ 0
 unfolding choose
 none_from_fewer c zero h = absurd (not-suc-le-zero h)
 none_from_fewer zero (suc i) h = refl
-none_from_fewer (suc c) (suc i) h =
-    let a : choose c i ≡ 0 = none_from_fewer c i (omega arith) in
-    let b : choose c (suc i) ≡ 0 = none_from_fewer c (suc i) (omega arith) in
-    omega arith
+none_from_fewer (suc c) (suc i) h = grind (arith, none_from_fewer c i (omega arith), none_from_fewer c (suc i) (omega arith))
 
 -- where there is a choice, there are enough to choose from
 pub enough : (c i : ℕ) → 0 < choose c i → i ≤ c
-enough c i h =
-    ⊎_elim
-    (λ (l : c < i). let z : ⊥ = omega (arith, none_from_fewer c i l) in absurd z)
-    (λ (l : i ≤ c). l)
-    (cases_lt c i)
+enough c i h = grind (arith, none_from_fewer)
 
 neighbours : (c i : ℕ) → choose c i + choose c (suc i) ≤ 2 ^ c
 unfolding choose
 neighbours zero zero = omega arith
 neighbours zero (suc i) = omega arith
-neighbours (suc c) zero = omega (arith, neighbours c zero, pow_pos c, pow-suc 2 c)
-neighbours (suc c) (suc i) = omega (arith, neighbours c i, neighbours c (suc i), pow-suc 2 c)
+neighbours (suc c) zero = omega (arith, neighbours c zero)
+neighbours (suc c) (suc i) = omega (arith, neighbours c i, neighbours c (suc i))
 
 pub neighbours_fit : (c i : ℕ) → c < 64 → choose c i + choose c (i + 1) < 2 ^ 64
-neighbours_fit c i h =
-    let q : 2 ^ c ≤ 2 ^ 63 = pow_mono {i = c} {j = 63} (omega arith) in
-    simp add-one (omega (arith, neighbours c i))
+neighbours_fit c i h = grind (arith, pow_mono, neighbours)
 
 -- a number that fits i wagons below c + 1, and is too large for i wagons below c: there is a wagon, which stands at c
 pub some_wagon : (c i x : ℕ) → x < choose (c + 1) i → choose c i ≤ x → 1 ≤ i
@@ -53,13 +43,10 @@ some_wagon c (suc i) x h k = omega arith
 
 -- and what is left of the number fits the others
 pub rest_fits : (c i x : ℕ) → 1 ≤ i → x < choose (c + 1) i → choose c i ≤ x → x - choose c i < choose c (i - 1)
-rest_fits c i x one h k =
-    let e : i - 1 + 1 ≡ i = omega arith in
-    let b : choose (c + 1) i ≡ choose c (i - 1) + choose c i = rw e at (sum_of_two c (i - 1)) in
-    omega arith
+rest_fits c i x one h k = grind (arith, sum_of_two)
 
 -- below section 0 there is no wagon, and nothing is left
 pub nothing_left : (i x : ℕ) → x < choose 0 i → (i ≡ 0) × (x ≡ 0)
 unfolding choose
-nothing_left zero x h = (refl, omega arith)
-nothing_left (suc i) x h = absurd (not-suc-le-zero h)
+nothing_left zero x h = grind arith
+nothing_left (suc i) x h = grind arith

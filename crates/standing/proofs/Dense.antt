@@ -1,5 +1,5 @@
 -- The numbers of the standings of n sections with k wagons are 0 to C(n, k) - 1, each for one standing.
-use Rattle.std.proofs.Common.{◌≡◌, ℕ, zero, suc, ◌+◌, ◌<◌, ◌≤◌, false, List, [], ◌∷◌, length, sym, refl, ap, ◌∙◌, ⊎_elim, add-zero, zero-add, add-one, arith}
+use Rattle.std.proofs.Common.{◌≡◌, ℕ, zero, suc, ◌+◌, ◌<◌, ◌≤◌, false, List, [], ◌∷◌, length, sym, ◌∙◌, ⊎_elim, add-zero, zero-add, add-one, arith}
 use Rattle.std.proofs.lemmas.Bool.{cases_lt}
 use Rattle.standing.specs.Choose.{choose}
 use Rattle.standing.specs.Number.{out_of_range}
@@ -9,15 +9,9 @@ use Rattle.standing.proofs.Steps.{nothing_more}
 
 -- a number that fits below some section still fits at the end
 fits_all : (s : List ℕ) (c k x : ℕ) {K X : ℕ} → SplitAt c k x s K X → X < choose (c + length s) K
-fits_all [] c k x g =
-    let e = nothing_more g.comes_to in
-    rw (add-zero, ← e.0, ← e.1) g.fits
-fits_all (zero ∷ s) c k x g =
-    let e : c + 1 + length s ≡ c + suc (length s) = omega arith in
-    rw e at (fits_all s (c + 1) k x (over_empty c g))
-fits_all (suc zero ∷ s) c k x g =
-    let e : c + 1 + length s ≡ c + suc (length s) = omega arith in
-    rw e at (fits_all s (c + 1) (k + 1) (x + choose c (k + 1)) (over_wagon c g))
+fits_all [] c k x g = grind (arith, nothing_more g.comes_to)
+fits_all (zero ∷ s) c k x g = grind (arith, fits_all s (c + 1) k x (over_empty c g))
+fits_all (suc zero ∷ s) c k x g = grind (arith, fits_all s (c + 1) (k + 1) (x + choose c (k + 1)) (over_wagon c g))
 fits_all (suc (suc b) ∷ s) c k x g = absurd (no_other c b g)
 
 -- there are bytes for the sections below c, before those from c on
@@ -36,41 +30,22 @@ record Same (s t : List ℕ) (k l x y : ℕ) : Type 0 where
   wagons : k ≡ l
   number : x ≡ y
 
--- an empty section and a wagon in it lead to different numbers
-apart : (c l y : ℕ) {k x : ℕ} → x < choose c k → k ≡ l + 1 → x ≡ y + choose c (l + 1) → ⊥
-apart c l y {k} {x} h e f =
-    let g : x < choose c (l + 1) = rw e at h in
-    omega arith
-
 -- bytes from a section on that come to the same are the same, and so is what stands below
 same : (s t : List ℕ) (c : ℕ) {k l x y K X : ℕ} → length s ≡ length t → SplitAt c k x s K X → SplitAt c l y t K X → Same s t k l x y
-same [] [] c n g h =
-    let e = nothing_more g.comes_to in
-    let f = nothing_more h.comes_to in
-    record { bytes = refl; wagons = e.0 ∙ sym f.0; number = e.1 ∙ sym f.1 }
-same [] (b ∷ t) c n g h = let z : ⊥ = omega arith in absurd z
-same (b ∷ s) [] c n g h = let z : ⊥ = omega arith in absurd z
-same (zero ∷ s) (zero ∷ t) c n g h =
-    let r = same s t (c + 1) (omega arith) (over_empty c g) (over_empty c h) in
-    record { bytes = ap (λ u. 0 ∷ u) r.bytes; wagons = r.wagons; number = r.number }
-same (zero ∷ s) (suc zero ∷ t) c {k} {l} {x} {y} n g h =
-    let r = same s t (c + 1) (omega arith) (over_empty c g) (over_wagon c h) in
-    absurd (apart c l y g.fits r.wagons r.number)
-same (suc zero ∷ s) (zero ∷ t) c {k} {l} {x} {y} n g h =
-    let r = same s t (c + 1) (omega arith) (over_wagon c g) (over_empty c h) in
-    absurd (apart c k x h.fits (sym r.wagons) (sym r.number))
-same (suc zero ∷ s) (suc zero ∷ t) c {k} {l} n g h =
-    let r = same s t (c + 1) (omega arith) (over_wagon c g) (over_wagon c h) in
-    let e : k ≡ l = omega (arith, r.wagons) in
-    let f : choose c (k + 1) ≡ choose c (l + 1) = rw e in
-    record { bytes = ap (λ u. 1 ∷ u) r.bytes; wagons = e; number = omega (arith, r.number) }
+same [] [] c n g h = grind arith
+same [] (b ∷ t) c n g h = grind arith
+same (b ∷ s) [] c n g h = grind arith
+same (zero ∷ s) (zero ∷ t) c n g h = grind (arith, same s t (c + 1) (omega arith) (over_empty c g) (over_empty c h))
+same (zero ∷ s) (suc zero ∷ t) c {k} {l} {x} {y} n g h = grind (arith, same s t (c + 1) (omega arith) (over_empty c g) (over_wagon c h))
+same (suc zero ∷ s) (zero ∷ t) c {k} {l} {x} {y} n g h = grind (arith, same s t (c + 1) (omega arith) (over_wagon c g) (over_empty c h))
+same (suc zero ∷ s) (suc zero ∷ t) c {k} {l} n g h = grind (arith, same s t (c + 1) (omega arith) (over_wagon c g) (over_wagon c h))
 same (zero ∷ s) (suc (suc b) ∷ t) c n g h = absurd (no_other c b h)
 same (suc zero ∷ s) (suc (suc b) ∷ t) c n g h = absurd (no_other c b h)
 same (suc (suc a) ∷ s) (b ∷ t) c n g h = absurd (no_other c a g)
 
 module _ (n k : ℕ) where
   pub none_above : (x : ℕ) (s : List ℕ) → Stands n k x s → x < choose n k
-  none_above x s h = rw (zero-add, h.size) at (fits_all s 0 0 0 (stands_split h))
+  none_above x s h = grind (arith, fits_all s 0 0 0 (stands_split h))
 
   pub none_twice : (x : ℕ) (s t : List ℕ) → Stands n k x s → Stands n k x t → s ≡ t
   none_twice x s t g h = (same s t 0 (g.size ∙ sym h.size) (stands_split g) (stands_split h)).bytes

@@ -3,7 +3,6 @@ pub mod Counted
 pub mod Counts
 pub mod Dense
 pub mod Rows
-pub mod Sizes
 pub mod Split
 pub mod Steps
 pub mod Written

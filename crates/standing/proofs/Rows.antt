@@ -1,5 +1,5 @@
 -- The triangle by its rule, row after row, and that C(c, i) stands at place i of row c.
-use Rattle.std.proofs.Common.{◌≡◌, ℕ, zero, suc, ◌+◌, ◌*◌, ◌/◌, ◌<◌, ◌≤◌, List, [], ◌∷◌, ◌++◌, length, get_or, sym, refl, ap, ◌∙◌, not-suc-le-zero, add-zero, add_assoc, add-mul, zero-add, mul-add, arith}
+use Rattle.std.proofs.Common.{◌≡◌, ℕ, zero, suc, ◌+◌, ◌*◌, ◌/◌, ◌<◌, ◌≤◌, List, [], ◌∷◌, ◌++◌, length, get_or, sym, refl, ap, not-suc-le-zero, add-zero, arith}
 use Rattle.std.proofs.lemmas.List.{get_or_append_left, get_or-append-add}
 use Rattle.standing.specs.Choose.{choose}
 
@@ -27,7 +27,7 @@ length_below p (x ∷ xs) = ap suc (length_below x xs)
 
 length_row : (c : ℕ) → length (row c) ≡ suc c
 length_row zero = refl
-length_row (suc c) = length_below 0 (row c) ∙ ap suc (length_row c)
+length_row (suc c) = grind (arith, length_below, length_row c)
 
 below_first : (p : ℕ) (xs : List ℕ) → get_or (below p xs) 0 0 ≡ p + get_or xs 0 0
 below_first p [] = sym (add-zero p)
@@ -42,9 +42,8 @@ row_entry : (c i : ℕ) → get_or (row c) i 0 ≡ choose c i
 unfolding choose
 row_entry zero zero = refl
 row_entry zero (suc i) = refl
-row_entry (suc c) zero = below_first 0 (row c) ∙ ap (λ n. 0 + n) (row_entry c 0)
-row_entry (suc c) (suc i) =
-    below_later 0 (row c) i ∙ ap (λ n. n + get_or (row c) (suc i) 0) (row_entry c i) ∙ ap (λ n. choose c i + n) (row_entry c (suc i))
+row_entry (suc c) zero = grind (arith, below_first 0 (row c), row_entry c 0)
+row_entry (suc c) (suc i) = grind (arith, below_later, row_entry c i, row_entry c (suc i))
 
 -- how many entries the c rows from row s on have
 entries : ℕ → ℕ → ℕ
@@ -54,24 +53,13 @@ entries s (suc c) = suc s + entries (suc s) c
 entries_twice : (s c : ℕ) → 2 * entries s c ≡ 2 * s * c + c * (c + 1)
 unfolding entries
 entries_twice s zero = omega arith
-entries_twice s (suc c) =
-    omega (arith, entries_twice (suc s) c, mul-add (2 * s) c 1, add-mul c 1 (c + 1), mul-add c c 1, mul-add (suc c) c 1)
+entries_twice s (suc c) = grind (arith, entries_twice (suc s) c)
 
 rows_entry : (n s c i : ℕ) → c < n → i ≤ s + c → get_or (rows n (row s)) (entries s c + i) 0 ≡ choose (s + c) i
 unfolding entries
 rows_entry zero s c i h k = absurd (not-suc-le-zero h)
-rows_entry (suc n) s zero i h k =
-    let l : i < length (row s) = simp length_row (omega arith) in
-    rw (zero-add, add-zero) (get_or_append_left (row s) (rows n (row (suc s))) 0 i l ∙ row_entry s i)
-rows_entry (suc n) s (suc c) i h k =
-    let e : entries s (suc c) + i ≡ length (row s) + (entries (suc s) c + i) = simp (length_row, add_assoc) in
-    let q : suc s + c ≡ s + suc c = omega arith in
-    ap (λ m. get_or (rows (suc n) (row s)) m 0) e
-    ∙ get_or-append-add (row s) (rows n (row (suc s))) (entries (suc s) c + i) 0
-    ∙ rows_entry n (suc s) c i (omega arith) (omega arith)
-    ∙ ap (λ m. choose m i) q
+rows_entry (suc n) s zero i h k = grind (arith, length_row, get_or_append_left, row_entry)
+rows_entry (suc n) s (suc c) i h k = grind (arith, length_row, get_or-append-add, rows_entry n (suc s) c i (omega arith) (omega arith))
 
 pub triangle_entry : (c i : ℕ) → c ≤ 64 → i ≤ c → get_or triangle (c * (c + 1) / 2 + i) 0 ≡ choose c i
-triangle_entry c i h k =
-    let e : c * (c + 1) / 2 ≡ entries 0 c = omega (arith, entries_twice 0 c) in
-    ap (λ m. get_or triangle (m + i) 0) e ∙ rows_entry 65 0 c i (omega arith) (omega arith) ∙ ap (λ m. choose m i) (zero-add c)
+triangle_entry c i h k = grind (arith, entries_twice 0 c, rows_entry 65 0 c i)

@@ -1,5 +1,6 @@
 -- The bytes of a buffer while a standing is written into it from its last section to its first.
-use Rattle.std.proofs.Common.{◌≡◌, ℕ, ◌+◌, ◌-◌, ◌<◌, ◌≤◌, false, List, [], ◌∷◌, length, take, drop, set, refl, ap, ◌∙◌, arith}
+use Rattle.std.proofs.lemmas.Grind.{common_steps}
+use Rattle.std.proofs.Common.{◌≡◌, ℕ, ◌+◌, ◌-◌, ◌<◌, ◌≤◌, false, List, ◌∷◌, length, take, drop, set, arith, rules}
 use lib.Seq.{take-set-lt}
 use Rattle.std.proofs.lemmas.List.{drop_all, drop-set, drop-set-lt, length-set, length-take-le}
 use Rattle.standing.specs.Choose.{choose}
@@ -15,31 +16,18 @@ pub record WrittenFrom (n k x : ℕ) (before after : List ℕ) (c i y : ℕ) : T
 
 module _ (n k x : ℕ) (before : List ℕ) where
   pub written_none : n ≤ length before → x < choose n k → WrittenFrom n k x before before n k x
-  written_none room fits =
-      let e : drop n (take n before) ≡ [] = drop_all n (take n before) (simp length-take-le (omega arith)) in
-      record { room = room; split = rw e (split_last n k x fits); rest = refl }
+  written_none room fits = search (rules, drop_all, split_last)
 
   module _ (after : List ℕ) (c i y : ℕ) (positive : 0 < c) (within : c ≤ n) (w : WrittenFrom n k x before after c i y) where
     -- what is split at c, where c is the successor of c - 1
     split_below : SplitAt (c - 1 + 1) i y (drop (c - 1 + 1) (take n after)) k x
-    split_below =
-        let e : c - 1 + 1 ≡ c = omega arith in
-        rw e w.split
+    split_below = grind arith
 
     put : (v : ℕ) → drop (c - 1) (take n (set after (c - 1) v)) ≡ v ∷ drop (c - 1 + 1) (take n after)
-    put v =
-        let lt : c - 1 < n = omega arith in
-        let room : n ≤ length after = w.room in
-        let l : c - 1 < length (take n after) = simp length-take-le lt in
-        ap (drop (c - 1)) (take-set-lt n after (c - 1) v lt) ∙ drop-set (take n after) (c - 1) v l
+    put v = grind (arith, common_steps, take-set-lt, drop-set)
 
     with_put : (v j z : ℕ) → SplitAt (c - 1) j z (v ∷ drop (c - 1 + 1) (take n after)) k x → WrittenFrom n k x before (set after (c - 1) v) (c - 1) j z
-    with_put v j z h =
-        record {
-          room = simp length-set w.room;
-          split = rw (put v) h;
-          rest = drop-set-lt n after (c - 1) v (omega arith) ∙ w.rest;
-        }
+    with_put v j z h = grind (arith, length-set, put, drop-set-lt)
 
     pub written_empty : y < choose (c - 1) i → WrittenFrom n k x before (set after (c - 1) 0) (c - 1) i y
     written_empty h = with_put 0 _ _ (under_empty (c - 1) split_below h)
@@ -51,4 +39,4 @@ module _ (n k x : ℕ) (before : List ℕ) where
     written_wagon h = with_put 1 _ _ (under_wagon (c - 1) split_below h)
 
   pub written_all : {after : List ℕ} {i y : ℕ} → out_of_range n ≡ false → WrittenFrom n k x before after 0 i y → Stands n k x (take n after)
-  written_all {after} o w = split_stands o (length-take-le n after w.room) (split_first w.split)
+  written_all {after} o w = search (rules, split_stands, length-take-le, split_first)

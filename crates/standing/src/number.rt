@@ -3,7 +3,7 @@ ghost use Rattle.std.specs.Prelude.{◌≡◌};
 ghost use Rattle.standing.specs.Number.{number_of};
 
 use crate::choices::choices;
-use crate::size::is_out_of_range;
+use crate::size::test_size;
 use refusal::Refusal;
 
 // How many wagons a standing has, and its number among the standings of as many sections and wagons.
@@ -17,11 +17,10 @@ pub struct Numbered {
 pub fn number(standing: &[u8]) -> Result<Numbered, Refusal>
     ensures { result ≡ number_of standing.now }
 {
-    if is_out_of_range(standing.len()) {
-        return Err(Refusal::SizeOutOfRange);
-    }
+    test_size(standing.len())?;
     let mut wagons = 0;
     let mut number = 0;
+    // A loop: each sum fits because of the bytes before it, and of the closure of a try_fold that was not proved.
     for (section, mark) in standing.iter().enumerate() {
         match *mark {
             0 => {}

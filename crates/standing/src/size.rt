@@ -1,14 +1,19 @@
 // How many sections a standing may have.
-ghost use Rattle.std.specs.Prelude.{◌≡◌, ◌≤◌, false};
-ghost use Rattle.standing.specs.Number.{most_sections, out_of_range};
+ghost use Rattle.std.specs.Prelude.{◌≡◌, true, false, OnOk, IfErr};
+ghost use Rattle.standing.specs.Number.{out_of_range};
+
+use refusal::Refusal;
 
 // The most sections of a standing.
 const MOST_SECTIONS: usize = 64;
 
-// Whether no standing has n sections.
-pub(crate) fn is_out_of_range(n: usize) -> bool
-    ensures answer { result ≡ out_of_range n }
-    ensures bound { result ≡ false → n ≤ most_sections }
+// Refuses a number of sections that no standing has.
+pub(crate) fn test_size(n: usize) -> Result<(), Refusal>
+    ensures in_range { OnOk result (out_of_range n ≡ false) }
+    ensures refused { IfErr result (λ e. (out_of_range n ≡ true) × (e ≡ Refusal.SizeOutOfRange)) }
 {
-    n == 0 || n > MOST_SECTIONS
+    if n == 0 || n > MOST_SECTIONS {
+        return Err(Refusal::SizeOutOfRange);
+    }
+    Ok(())
 }

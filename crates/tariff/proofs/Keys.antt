@@ -1,13 +1,12 @@
 -- The key of a move, that is, the section that it crosses and its way; lists counted by keys.
-use Rattle.std.proofs.Common.{◌≡◌, ℕ, ◌<◌, ◌≤◌, Bool, true, false, cond, ◌&&◌, eqb, List, [], ◌∷◌, count_by, sym, refl, ap, ◌∙◌, ⊎_elim, arith, ltb-true, eqb-true}
-use borrow.Author.Tests.{clash}
-use Rattle.std.proofs.lemmas.Bool.{cases_eq, eq-eqb, ne_eqb, lt-ltb, le-ltb, and_from}
+use Rattle.std.proofs.Common.{◌≡◌, ℕ, ◌<◌, ◌≤◌, Bool, true, cond, eqb, List, [], ◌∷◌, count_by, refl, ap, ⊎_elim, arith}
+use Rattle.std.proofs.lemmas.Bool.Decides.{nat_tests}
+use Rattle.std.proofs.lemmas.Bool.{eq-eqb, ne_eqb, lt-ltb, and_from}
 use Rattle.motion.specs.declared.moves.Move.{Move}
 use Rattle.motion.specs.declared.ways.Way.{Way}
 use Rattle.motion.specs.declared.ways.Way.TheVariants.{Inward, Outward}
 use Rattle.motion.specs.Tree.{Tree, Branch}
 use Rattle.motion.specs.Moves.{crosses_inward, crosses_outward, one_if, Legal, Leads}
-use Rattle.motion.proofs.Crossings.{inward_yes, inward_no, inward_other, outward_yes, outward_no, outward_other}
 use Rattle.tariff.specs.Charges.{higher, way_of}
 
 abbrev pub crosses : Way → ℕ → Move → Bool
@@ -34,56 +33,39 @@ hit Inward t Outward s = 0
 hit Outward t Inward s = 0
 hit Outward t Outward s = cond (eqb t s) 1 0
 
-and_first : (a b : Bool) → (a && b) ≡ true → a ≡ true
-and_first true b e = refl
-and_first false b e = e
-
-and_second : (a b : Bool) → (a && b) ≡ true → b ≡ true
-and_second true b e = e
-and_second false b e = absurd (clash e)
-
 module _ (m : Move) (s : ℕ) where
-  from_is : crosses_inward s m ≡ true → m.from ≡ s
-  from_is e = eqb-true _ _ (and_first _ _ e)
+  inward_is : crosses_inward s m ≡ true → (m.from ≡ s) × (m.to < m.from) × (way_of m ≡ Inward)
+  inward_is e = (grind (arith, nat_tests), grind (arith, nat_tests), grind (arith, nat_tests))
 
-  leads_in : crosses_inward s m ≡ true → m.to < m.from
-  leads_in e = ltb-true _ _ (and_second (eqb m.from s) _ e)
+  outward_is : crosses_outward s m ≡ true → (m.to ≡ s) × (m.from < m.to) × (way_of m ≡ Outward)
+  outward_is e = (grind (arith, nat_tests), grind (arith, nat_tests), grind (arith, nat_tests))
 
-  to_is : crosses_outward s m ≡ true → m.to ≡ s
-  to_is e = eqb-true _ _ (and_first _ _ e)
+  module _ (t : ℕ) where
+    inward_hits : crosses_inward s m ≡ true → (one_if (crosses_inward t m) ≡ hit Inward t Inward s) × (one_if (crosses_outward t m) ≡ 0)
+    inward_hits e = (grind (arith, nat_tests), grind (arith, nat_tests))
 
-  leads_out : crosses_outward s m ≡ true → m.from < m.to
-  leads_out e = ltb-true _ _ (and_second (eqb m.to s) _ e)
+    outward_hits : crosses_outward s m ≡ true → (one_if (crosses_inward t m) ≡ 0) × (one_if (crosses_outward t m) ≡ hit Outward t Outward s)
+    outward_hits e = (grind (arith, nat_tests), grind (arith, nat_tests))
 
 pub key_is : (w : Way) (s : ℕ) (m : Move) → crosses w s m ≡ true → (higher m ≡ s) × (way_of m ≡ w)
-key_is Inward s m e =
-    let a = from_is m s e in
-    let l = leads_in m s e in
-    (omega arith, ap (λ b. cond b Inward Outward) (lt-ltb m.to m.from l))
-key_is Outward s m e =
-    let a = to_is m s e in
-    let l = leads_out m s e in
-    (omega arith, ap (λ b. cond b Inward Outward) (le-ltb m.to m.from (omega arith)))
+key_is Inward s m e = let is = inward_is m s e in (omega (arith, is.0, is.1), is.2)
+key_is Outward s m e = let is = outward_is m s e in (omega (arith, is.0, is.1), is.2)
 
 pub key_hits : (w : Way) (s : ℕ) (m : Move) → crosses w s m ≡ true → (v : Way) (t : ℕ) → one_if (crosses v t m) ≡ hit v t w s
-key_hits Inward s m e Inward t =
-    let a = from_is m s e in
-    ⊎_elim
-    (λ (q : t ≡ s). ap (λ k. one_if (crosses_inward k m)) (q ∙ sym a) ∙ inward_yes m (leads_in m s e) ∙ sym (ap (λ b. cond b 1 0) (eq-eqb t s q)))
-    (λ (ne : t ≡ s → ⊥). inward_other m t (λ q. ne (q ∙ a)) ∙ sym (ap (λ b. cond b 1 0) (ne_eqb t s ne)))
-    (cases_eq t s)
-key_hits Inward s m e Outward t = let l = leads_in m s e in outward_no m (omega arith) t
-key_hits Outward s m e Inward t = let l = leads_out m s e in inward_no m (omega arith) t
-key_hits Outward s m e Outward t =
-    let a = to_is m s e in
-    ⊎_elim
-    (λ (q : t ≡ s). ap (λ k. one_if (crosses_outward k m)) (q ∙ sym a) ∙ outward_yes m (leads_out m s e) ∙ sym (ap (λ b. cond b 1 0) (eq-eqb t s q)))
-    (λ (ne : t ≡ s → ⊥). outward_other m t (λ q. ne (q ∙ a)) ∙ sym (ap (λ b. cond b 1 0) (ne_eqb t s ne)))
-    (cases_eq t s)
+key_hits Inward s m e Inward t = (inward_hits m s t e).0
+key_hits Inward s m e Outward t = (inward_hits m s t e).1
+key_hits Outward s m e Inward t = (outward_hits m s t e).0
+key_hits Outward s m e Outward t = (outward_hits m s t e).1
 
 pub hit_self : (w : Way) (s : ℕ) → hit w s w s ≡ 1
 hit_self Inward s = ap (λ b. cond b 1 0) (eq-eqb s s refl)
 hit_self Outward s = ap (λ b. cond b 1 0) (eq-eqb s s refl)
+
+pub hit_other : (v : Way) (t : ℕ) (w : Way) (s : ℕ) → (t ≡ s → ⊥) → hit v t w s ≡ 0
+hit_other Inward t Inward s ne = ap (λ b. cond b 1 0) (ne_eqb t s ne)
+hit_other Inward t Outward s ne = refl
+hit_other Outward t Inward s ne = refl
+hit_other Outward t Outward s ne = ap (λ b. cond b 1 0) (ne_eqb t s ne)
 
 -- every legal move has a key
 legal_key : (n : ℕ) (inner wagons : List ℕ) (m : Move) → Tree n inner → Legal n inner wagons m → (w : Way) × ((s : ℕ) × (crosses w s m ≡ true))

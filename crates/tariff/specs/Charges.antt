@@ -1,5 +1,5 @@
 -- The charge of a list of moves.
-use Rattle.std.specs.Prelude.{ℕ, zero, suc, ◌%◌, max, cond, List, [], ◌∷◌, ◌==◌, nat_lt}
+use Rattle.std.specs.Prelude.{ℕ, zero, suc, max, if◌then◌else◌, List, [], ◌∷◌, nat_lt}
 use Rattle.motion.specs.declared.moves.Move.{Move}
 use Rattle.motion.specs.declared.ways.Way.{Way}
 use Rattle.motion.specs.declared.ways.Way.TheVariants.{Inward, Outward}
@@ -10,7 +10,7 @@ higher m = max m.from m.to
 
 -- inward leads to the lower number
 abbrev pub way_of : Move → Way
-way_of m = cond (nat_lt m.to m.from) Inward Outward
+way_of m = if nat_lt m.to m.from then Inward else Outward
 
 -- a move's charge depends on its higher-numbered section and its way
 abbrev pub charge_of : {S : Type 0} → Rule S → Move → S
@@ -30,13 +30,9 @@ unfoldable pub times : {S : Type 0} → Rule S → S → ℕ → S
 times rule a zero = rule.none
 times rule a (suc k) = rule.plus a (times rule a k)
 
--- joined where a number is odd
-abbrev pub joined_if_odd : {S : Type 0} → Rule S → S → S → ℕ → S
-joined_if_odd rule sum a k = cond (k % 2 == 1) (rule.plus sum a) sum
-
--- what the crossings of sections 1 to k come to, where s is crossed outward as often as `outward s` says, and inward likewise
-unfoldable pub by_sections : {S : Type 0} → Rule S → (ℕ → ℕ) → (ℕ → ℕ) → ℕ → S
-by_sections rule outward inward zero = rule.none
-by_sections rule outward inward (suc k) =
-    rule.plus (by_sections rule outward inward k)
-    (rule.plus (times rule (rule.cost (suc k) Outward) (outward (suc k))) (times rule (rule.cost (suc k) Inward) (inward (suc k))))
+-- what the crossings of sections 1 to k come to, where s is crossed as often each way as `asked` says
+unfoldable pub by_sections : {S : Type 0} → Rule S → (Way → ℕ → ℕ) → ℕ → S
+by_sections rule asked zero = rule.none
+by_sections rule asked (suc k) =
+    rule.plus (by_sections rule asked k)
+    (rule.plus (times rule (rule.cost (suc k) Outward) (asked Outward (suc k))) (times rule (rule.cost (suc k) Inward) (asked Inward (suc k))))

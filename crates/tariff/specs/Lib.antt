@@ -5,3 +5,4 @@ pub mod Pairs
 pub mod Charges
 pub mod Filling
 pub mod Grades
+pub mod Lawful

@@ -2,6 +2,7 @@
 #![tactic(auto)]
 
 pub mod amount;
+pub mod measure;
 pub mod metres;
 pub mod move_count;
 pub mod pair;

@@ -1,13 +1,13 @@
 // Any two tariffs in one: the first decides, and the second where the first sees no difference.
 ghost use Rattle.std.specs.Prelude.{◌≡◌};
 ghost use Rattle.tariff.specs.Pairs.{pair_rule};
-ghost use Rattle.std.proofs.Common.{rules};
+ghost use Rattle.tariff.specs.Lawful.{pair_laws, pair_total, pair_outside};
 
 use crate::tariff::Tariff;
 use motion::ways::Way;
 
 // A sum of each.
-#[derive(Clone, Copy)]
+#[derive(Clone, Copy, PartialEq, Eq, Debug)]
 pub struct Both<X, Y> {
     pub first: X,
     pub second: Y,
@@ -24,11 +24,11 @@ impl<F: Tariff, G: Tariff> Tariff for Pair<F, G> {
 
     ghost rule = { λ t. pair_rule (F.Tariff.rule t.one) (G.Tariff.rule t.two) };
 
-    ghost laws = { Prim.search rules };
+    ghost laws = { λ t. pair_laws (F.Tariff.rule t.one) (G.Tariff.rule t.two) (F.Tariff.laws t.one) (G.Tariff.laws t.two) };
 
-    ghost total = { Prim.search rules };
+    ghost total = { λ t. pair_total (F.Tariff.rule t.one) (G.Tariff.rule t.two) (F.Tariff.total t.one) (G.Tariff.total t.two) };
 
-    ghost outside = { Prim.search rules };
+    ghost outside = { λ t. pair_outside (F.Tariff.rule t.one) (G.Tariff.rule t.two) (F.Tariff.outside t.one) (G.Tariff.outside t.two) };
 
     fn nothing(&self) -> Both<F::Sum, G::Sum> {
         Both {
@@ -52,14 +52,7 @@ impl<F: Tariff, G: Tariff> Tariff for Pair<F, G> {
     }
 
     fn not_more(&self, a: Both<F::Sum, G::Sum>, b: Both<F::Sum, G::Sum>) -> bool {
-        if self.one.not_more(a.first, b.first) {
-            if self.one.not_more(b.first, a.first) {
-                self.two.not_more(a.second, b.second)
-            } else {
-                true
-            }
-        } else {
-            false
-        }
+        self.one.not_more(a.first, b.first)
+            && (!self.one.not_more(b.first, a.first) || self.two.not_more(a.second, b.second))
     }
 }

@@ -1,19 +1,20 @@
 // The tariff that takes the steepest grade of all moves: two grades for each section, one for each way.
 ghost use Rattle.std.specs.Prelude.{◌≡◌, []};
-ghost use Rattle.tariff.specs.Tables.{Holds};
+ghost use Rattle.tariff.specs.Tables.{Holds, by_way};
 ghost use Rattle.tariff.specs.Filling.{GradesFilled};
 ghost use Rattle.tariff.specs.Grades.{grade_rule};
-ghost use Rattle.std.proofs.Common.{rules};
+ghost use Rattle.tariff.specs.Lawful.{grade_laws, grade_total, grade_outside};
 
-use crate::table::{TABLE_SIZE, grade_table};
-use crate::tariff::{HIGHEST, Tariff};
+use crate::table::{TABLE_SIZE, table};
+use crate::tariff::{Tariff, can_be_crossed};
 use motion::ways::Way;
 use refusal::Refusal;
 
+// The grades come as a list for each way, so each way has a table: an array of pairs would be filled entry by entry.
 #[derive(Clone, Copy)]
 pub struct Steepest {
-    inward: [u8; 512],
-    outward: [u8; 512],
+    inward: [u8; TABLE_SIZE],
+    outward: [u8; TABLE_SIZE],
 }
 
 impl Steepest {
@@ -23,8 +24,8 @@ impl Steepest {
         ensures outward { Holds [] result.outward }
     {
         Steepest {
-            inward: grade_table(&[]),
-            outward: grade_table(&[]),
+            inward: [0; TABLE_SIZE],
+            outward: [0; TABLE_SIZE],
         }
     }
 
@@ -36,10 +37,20 @@ impl Steepest {
             return Err(Refusal::SizeOutOfRange);
         }
         *self = Steepest {
-            inward: grade_table(inward),
-            outward: grade_table(outward),
+            inward: table(inward, 0),
+            outward: table(outward, 0),
         };
         Ok(())
+    }
+
+    // The grades of one way.
+    fn grades(&self, way: Way) -> &[u8; TABLE_SIZE]
+        ensures { result.now ≡ by_way self.now.inward self.now.outward way }
+    {
+        match way {
+            Way::Inward => &self.inward,
+            Way::Outward => &self.outward,
+        }
     }
 }
 
@@ -48,23 +59,21 @@ impl Tariff for Steepest {
 
     ghost rule = { λ t. grade_rule t.inward t.outward };
 
-    ghost laws = { Prim.search rules };
+    ghost laws = { λ t. grade_laws t.inward t.outward };
 
-    ghost total = { Prim.search rules };
+    ghost total = { λ t. grade_total t.inward t.outward };
 
-    ghost outside = { Prim.search rules };
+    ghost outside = { λ t. grade_outside t.inward t.outward };
 
     fn nothing(&self) -> u8 {
         0
     }
 
     fn charge(&self, section: u16, way: Way) -> u8 {
-        if section == 0 || section > HIGHEST {
-            return 0;
-        }
-        match way {
-            Way::Inward => self.inward[section as usize],
-            Way::Outward => self.outward[section as usize],
+        if can_be_crossed(section) {
+            self.grades(way)[usize::from(section)]
+        } else {
+            0
         }
     }
 

@@ -1,11 +1,18 @@
 // What a tariff is asked, and what it owes.
-ghost use Rattle.std.specs.Prelude.{◌≡◌};
-ghost use Rattle.tariff.specs.Rule.{Rule, Laws, Total, NoChargeOutside};
+ghost use Rattle.std.specs.Prelude.{◌≡◌, ◌↔◌, ◌<◌, ◌≤◌, IsTrue};
+ghost use Rattle.tariff.specs.Rule.{Rule, Laws, Total, NoChargeOutside, highest};
 
 use motion::ways::Way;
 
 // The highest section that can be the higher one of a move.
-pub(crate) const HIGHEST: u16 = 511;
+const HIGHEST: u16 = 511;
+
+// Whether a move can cross the section, that is, have it as its higher one.
+pub(crate) fn can_be_crossed(section: u16) -> bool
+    ensures { IsTrue result ↔ ((0 < section) × (section ≤ highest)) }
+{
+    (1..=HIGHEST).contains(&section)
+}
 
 pub trait Tariff {
     // what moves come to: moves, metres, a grade

@@ -1,6 +1,6 @@
 // What can be done with a list.
 ghost use Rattle.std.specs.Prelude.{◌≡◌, ◌+◌, ◌<◌, ◌≤◌, [], ◌∷◌, ◌++◌, length, MatchOption, slice_index_or, slice_set};
-ghost use Rattle.lists.specs.Held.{held, Added};
+ghost use Rattle.lists.specs.Held.{held, SameSlice, Added};
 
 use super::List;
 use refusal::Refusal;
@@ -19,7 +19,7 @@ impl<'a, T: Copy> List<'a, T> {
     pub fn clear(&mut self)
         ensures len { self.new.len ≡ 0 }
         ensures slots { self.new.slots.now ≡ self.old.slots.now }
-        ensures lender { self.new.slots.ghost_name ≡ self.old.slots.ghost_name }
+        ensures slice { SameSlice self.old self.new }
     {
         self.len = 0;
     }
@@ -27,7 +27,7 @@ impl<'a, T: Copy> List<'a, T> {
     // Adds an entry after the last one.
     pub fn add(&mut self, entry: T) -> Result<(), Refusal>
         ensures added { Added entry self.old self.new result }
-        ensures lender { self.new.slots.ghost_name ≡ self.old.slots.ghost_name }
+        ensures slice { SameSlice self.old self.new }
     {
         if self.room() == 0 {
             return Err(Refusal::OutOfRoom);
@@ -42,7 +42,7 @@ impl<'a, T: Copy> List<'a, T> {
         ensures held { held self.new ≡ held self.old ++ (entry ∷ []) }
         ensures len { self.new.len ≡ self.old.len + 1 }
         ensures slots { self.new.slots.now ≡ slice_set self.old.slots.now self.old.len entry }
-        ensures lender { self.new.slots.ghost_name ≡ self.old.slots.ghost_name }
+        ensures slice { SameSlice self.old self.new }
     {
         self.slots[self.len] = entry;
         self.len += 1;
@@ -66,12 +66,7 @@ impl<'a, T: Copy> List<'a, T> {
     pub fn entry(&self, index: usize) -> Option<T>
         ensures { MatchOption result (length (held self.now) ≤ index) (λ x. (index < length (held self.now)) × (x ≡ slice_index_or (held self.now) index x)) }
     {
-        let slots: &[T] = self.slots;
-        if index < self.len {
-            Some(slots[index])
-        } else {
-            None
-        }
+        self.entries().get(index).copied()
     }
 
     // All entries, the first one first.

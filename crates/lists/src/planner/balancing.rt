@@ -1,63 +1,45 @@
 // The balancing recursion: section by section, from the neck outward, each is settled before those below it.
 ghost use Rattle.std.specs.Prelude.{◌≡◌, ◌<◌, [], ◌∷◌, length};
 ghost use Rattle.motion.specs.Due.{Ready, over};
+ghost use Rattle.motion.specs.Moves.{moved};
 ghost use Rattle.motion.specs.Stepping.{Task};
-ghost use Rattle.lists.specs.Planner.{Kept, CanCarry, Carried};
-ghost use Rattle.lists.specs.Writing.{Wrote};
+ghost use Rattle.lists.specs.Planner.{CanCarry};
+ghost use Rattle.lists.specs.Writing.{Wrote, HasSlot};
 ghost use Rattle.lists.specs.Balanced.{Made, ShiftsAt, TurnsAt, BalancingAt, LowestAt, HasRoom, SettledBefore};
 
 use super::Planner;
-use super::searching::{first_branch, next_branch};
-use crate::list::List;
+use crate::book::Book;
 use crate::writer::EachMove;
 use motion::ways::Way;
-use siding::Siding;
 
-impl Planner {
+impl Planner<'_> {
     // Balances a section, and then each branch with all below it, in rising order.
-    pub(crate) fn balance<W: EachMove>(
-        &mut self,
-        siding: &Siding,
-        u: usize,
-        writer: &mut W,
-        list: &mut List<W::Entry>,
-    )
-        requires kept { Kept siding.now self.old }
-        requires within { u < siding.now.sections }
-        requires before { SettledBefore siding.now self.old.wagons u }
-        requires room { HasRoom siding.now self.old.wagons list.old }
-        ensures kept { Kept siding.now self.new }
-        ensures balanced { Made W.EachMove.writer (BalancingAt siding.now self.old.wagons (Task.whole u)) writer.old list.old self.new.wagons writer.new list.new }
-        ensures lender { list.new.slots.ghost_name ≡ list.old.slots.ghost_name }
+    pub(crate) fn balance<W: EachMove>(&mut self, u: usize, book: &mut Book<'_, '_, W>)
+        requires within { u < self.old.siding.now.track.sections }
+        requires before { SettledBefore self.old.siding.now self.old.wagons u }
+        requires room { HasRoom self.old.siding.now self.old.wagons book.old }
+        ensures siding { self.new.siding.now ≡ self.old.siding.now }
+        ensures balanced { Made W.EachMove.writer (BalancingAt self.old.siding.now self.old.wagons (Task.whole u)) book.old self.new.wagons book.new }
     {
-        self.settle(siding, u, writer, list);
-        let mut branch = first_branch(siding, u);
-        while branch > 0 {
-            self.balance(siding, branch, writer, list);
-            branch = next_branch(siding, branch);
+        self.settle(u, book);
+        let track = self.siding.layout().track;
+        for branch in track.branches(u) {
+            self.balance(branch, book);
         }
     }
 
     // Settles a section: while a branch of it has a demand, it hands on the way that it can.
-    fn settle<W: EachMove>(
-        &mut self,
-        siding: &Siding,
-        u: usize,
-        writer: &mut W,
-        list: &mut List<W::Entry>,
-    )
-        requires kept { Kept siding.now self.old }
-        requires within { u < siding.now.sections }
-        requires before { SettledBefore siding.now self.old.wagons u }
-        requires room { HasRoom siding.now self.old.wagons list.old }
-        ensures kept { Kept siding.now self.new }
-        ensures settled { Made W.EachMove.writer (TurnsAt siding.now self.old.wagons u) writer.old list.old self.new.wagons writer.new list.new }
-        ensures lender { list.new.slots.ghost_name ≡ list.old.slots.ghost_name }
+    fn settle<W: EachMove>(&mut self, u: usize, book: &mut Book<'_, '_, W>)
+        requires within { u < self.old.siding.now.track.sections }
+        requires before { SettledBefore self.old.siding.now self.old.wagons u }
+        requires room { HasRoom self.old.siding.now self.old.wagons book.old }
+        ensures siding { self.new.siding.now ≡ self.old.siding.now }
+        ensures settled { Made W.EachMove.writer (TurnsAt self.old.siding.now self.old.wagons u) book.old self.new.wagons book.new }
     {
         loop {
-            let way = self.way_at(u);
-            match self.asking(siding, way, u) {
-                Some(v) => self.shift(siding, way, u, v, writer, list),
+            let way = Way::of(self.wagons[u]);
+            match self.asking(way, u) {
+                Some(v) => self.shift(way, u, v, book),
                 None => return,
             }
         }
@@ -65,52 +47,35 @@ impl Planner {
 
     // Brings a wagon over between a section and its lowest branch that asks; where the branch is not open, it first
     // does the same with a branch of its own.
-    fn shift<W: EachMove>(
-        &mut self,
-        siding: &Siding,
-        way: Way,
-        u: usize,
-        v: usize,
-        writer: &mut W,
-        list: &mut List<W::Entry>,
-    )
-        requires kept { Kept siding.now self.old }
-        requires lowest { LowestAt siding.now way self.old.wagons u v }
+    fn shift<W: EachMove>(&mut self, way: Way, u: usize, v: usize, book: &mut Book<'_, '_, W>)
+        requires lowest { LowestAt self.old.siding.now way self.old.wagons u v }
         requires ready { Ready way self.old.wagons u }
-        requires room { HasRoom siding.now self.old.wagons list.old }
-        ensures kept { Kept siding.now self.new }
-        ensures shifted { Made W.EachMove.writer (ShiftsAt siding.now way self.old.wagons u v) writer.old list.old self.new.wagons writer.new list.new }
-        ensures lender { list.new.slots.ghost_name ≡ list.old.slots.ghost_name }
+        requires room { HasRoom self.old.siding.now self.old.wagons book.old }
+        ensures siding { self.new.siding.now ≡ self.old.siding.now }
+        ensures shifted { Made W.EachMove.writer (ShiftsAt self.old.siding.now way self.old.wagons u v) book.old self.new.wagons book.new }
     {
-        if self.is_open(way, v) {
-            self.hand_over(way, u, v, writer, list);
+        if way.is_open(self.wagons[v]) {
+            self.hand_over(way, u, v, book);
             return;
         }
-        match self.asking(siding, way, v) {
+        match self.asking(way, v) {
             Some(t) => {
-                self.shift(siding, way, v, t, writer, list);
-                self.hand_over(way, u, v, writer, list);
+                self.shift(way, v, t, book);
+                self.hand_over(way, u, v, book);
             }
             None => unreachable(),
         }
     }
 
     // Makes one move, and writes it down.
-    fn hand_over<W: EachMove>(
-        &mut self,
-        way: Way,
-        u: usize,
-        v: usize,
-        writer: &mut W,
-        list: &mut List<W::Entry>,
-    )
+    fn hand_over<W: EachMove>(&mut self, way: Way, u: usize, v: usize, book: &mut Book<'_, '_, W>)
         requires can { CanCarry way self.old u v }
-        requires room { list.old.len < length list.old.slots.now }
-        ensures carried { Carried way self.old u v self.new }
-        ensures wrote { Wrote W.EachMove.writer writer.old list.old (over way u v ∷ []) writer.new list.new }
-        ensures lender { list.new.slots.ghost_name ≡ list.old.slots.ghost_name }
+        requires room { HasSlot book.old }
+        ensures siding { self.new.siding.now ≡ self.old.siding.now }
+        ensures carried { self.new.wagons ≡ moved self.old.wagons (over way u v) }
+        ensures wrote { Wrote W.EachMove.writer book.old (over way u v ∷ []) book.new }
     {
         let m = self.carry(way, u, v);
-        list.put(writer.write(m));
+        book.enter(m);
     }
 }

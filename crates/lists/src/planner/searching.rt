@@ -1,74 +1,78 @@
 // The search for the lowest branch that asks, from where it stopped the last time.
-ghost use Rattle.std.specs.Prelude.{◌≡◌, ◌<◌, length, slice_index};
-ghost use Rattle.lists.specs.Planner.{cursors, with_cursor, Kept, Reached, Asking};
+ghost use Rattle.std.specs.Prelude.{◌≡◌, ◌<◌, ℕ, length, slice_index, slice_set};
+ghost use Rattle.std.specs.Option.{unwrap_or};
+ghost use Rattle.lists.specs.Cursors.{IsLowestBranch};
+ghost use Rattle.lists.specs.Planner.{cursors, Asking};
 
 use super::Planner;
 use motion::ways::Way;
-use siding::Siding;
+use siding::track::{MOST_SECTIONS, Track};
+use std::array;
 
-impl Planner {
+impl Planner<'_> {
     // The lowest branch of the section that asks for a move this way.
-    pub(crate) fn asking(&mut self, siding: &Siding, way: Way, u: usize) -> Option<usize>
-        requires kept { Kept siding.now self.old }
-        requires within { u < siding.now.sections }
-        ensures kept { Kept siding.now self.new }
+    pub(crate) fn asking(&mut self, way: Way, u: usize) -> Option<usize>
+        requires { u < self.old.siding.now.track.sections }
+        ensures siding { self.new.siding.now ≡ self.old.siding.now }
         ensures wagons { self.new.wagons ≡ self.old.wagons }
-        ensures asking { Asking siding.now self.old.wagons way u result }
+        ensures demand { self.new.demand ≡ self.old.demand }
+        ensures cursor { cursors way self.new ≡ slice_set (cursors way self.old) u (unwrap_or result 0) }
+        ensures asking { Asking self.old.siding.now self.old.wagons way u result }
     {
-        let c = self.reached(siding, way, u);
-        self.put_cursor(way, u, c);
-        if c > 0 { Some(c) } else { None }
+        let found = self.reached(way, u);
+        self.keep(way, u, found);
+        found
     }
 
-    // Where the search comes to: the first branch from the cursor on that asks, or 0 past the last.
-    fn reached(&self, siding: &Siding, way: Way, u: usize) -> usize
-        requires kept { Kept siding.now self.now }
-        requires within { u < siding.now.sections }
-        ensures { Reached siding.now self.now way u result }
+    // Where the search comes to: the first branch from the cursor on that asks.
+    fn reached(&self, way: Way, u: usize) -> Option<usize>
+        requires { u < self.now.siding.now.track.sections }
+        ensures { Asking self.now.siding.now self.now.wagons way u result }
     {
-        let mut c = self.cursor(way, u);
-        while c > 0 {
-            if way.asks(self.demand[c]) {
-                return c;
-            }
-            c = next_branch(siding, c);
-        }
-        c
+        let track = self.siding.layout().track;
+        track
+            .branches_from(self.cursor(way, u))
+            .find(|branch| way.asks(self.demand[*branch]))
     }
 
     fn cursor(&self, way: Way, u: usize) -> usize
-        requires { (length (cursors way self.now) ≡ 512) × (u < 512) }
+        requires { u < self.now.siding.now.track.sections }
         ensures { result ≡ slice_index (cursors way self.now) u }
     {
         match way {
-            Way::Outward => self.outward[u] as usize,
-            Way::Inward => self.inward[u] as usize,
+            Way::Outward => usize::from(self.outward[u]),
+            Way::Inward => usize::from(self.inward[u]),
         }
     }
 
-    fn put_cursor(&mut self, way: Way, u: usize, c: usize)
-        requires { (length (cursors way self.old) ≡ 512) × ((u < 512) × (c < 512)) }
-        ensures { self.new ≡ with_cursor way self.old u c }
+    // Puts the cursor where the search has come to; a section fits, so a refusal of `TryFrom` could not come.
+    fn keep(&mut self, way: Way, u: usize, found: Option<usize>)
+        requires within { u < self.old.siding.now.track.sections }
+        requires asking { Asking self.old.siding.now self.old.wagons way u found }
+        ensures siding { self.new.siding.now ≡ self.old.siding.now }
+        ensures wagons { self.new.wagons ≡ self.old.wagons }
+        ensures demand { self.new.demand ≡ self.old.demand }
+        ensures cursor { cursors way self.new ≡ slice_set (cursors way self.old) u (unwrap_or found 0) }
     {
+        let cursor = found.unwrap_or(0) as u16;
         match way {
-            Way::Outward => self.outward[u] = c as u16,
-            Way::Inward => self.inward[u] = c as u16,
+            Way::Outward => self.outward[u] = cursor,
+            Way::Inward => self.inward[u] = cursor,
         }
     }
 }
 
-// The lowest branch of a section; 0 where it has none.
-pub(crate) fn first_branch(siding: &Siding, u: usize) -> usize
-    requires { u < siding.now.sections }
-    ensures { result ≡ slice_index siding.now.first u }
+// The lowest branch of each section.
+pub(crate) fn first_branches(track: &Track) -> [u16; MOST_SECTIONS]
+    ensures long { length result ≡ 512 }
+    ensures lowest { (u : ℕ) → IsLowestBranch track.now.sections track.now.inner u (slice_index result u) }
 {
-    siding.layout().first[u] as usize
+    array::from_fn(|section| first_branch(track, section))
 }
 
-// The next higher branch of the section that a branch hangs on; 0 where there is none.
-pub(crate) fn next_branch(siding: &Siding, branch: usize) -> usize
-    requires { branch < siding.now.sections }
-    ensures { result ≡ slice_index siding.now.next branch }
+// The lowest branch of a section, or 0; a section fits here too.
+fn first_branch(track: &Track, section: usize) -> u16
+    ensures { IsLowestBranch track.now.sections track.now.inner section result }
 {
-    siding.layout().next[branch] as usize
+    track.branches(section).next().unwrap_or(0) as u16
 }

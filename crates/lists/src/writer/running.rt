@@ -19,11 +19,10 @@ impl<'a, F: Tariff> EachMove for Running<'a, F> {
     ghost writer = { sums_writer F.Tariff.rule };
 
     fn write(&mut self, m: Move) -> F::Sum {
-        let higher = if m.to < m.from { m.from } else { m.to };
-        let way = if m.to < m.from {
-            Way::Inward
+        let (higher, way) = if m.to < m.from {
+            (m.from, Way::Inward)
         } else {
-            Way::Outward
+            (m.to, Way::Outward)
         };
         self.sum = self.tariff.join(self.sum, self.tariff.charge(higher, way));
         self.sum

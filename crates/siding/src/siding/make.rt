@@ -7,7 +7,7 @@ use motion::calls::Call;
 use refusal::Refusal;
 
 impl Siding {
-    // Makes a call.
+    // Makes a call. A call is a value that a line gives, so it is matched here, and is no closure.
     pub fn make(&mut self, call: Call) -> Result<(), Refusal>
         ensures { CarriedOut (outcome call (state_of self.old)) result self.old self.new }
     {

@@ -1,8 +1,9 @@
-// The page of a siding.
+// Turning the page of a siding.
 ghost use Rattle.std.specs.Prelude.{◌≡◌};
 ghost use Rattle.motion.specs.State.{page_begun};
 ghost use Rattle.siding.specs.Stands.{state_of};
 
+use crate::page::Page;
 use crate::siding::Siding;
 
 impl Siding {
@@ -11,9 +12,7 @@ impl Siding {
         ensures { state_of self.new ≡ page_begun (state_of self.old) }
     {
         let mut next = *self;
-        next.head = self.figure;
-        next.moves = 0;
-        next.away = 0;
+        next.page = Page::begun(self.figure);
         *self = next;
     }
 }

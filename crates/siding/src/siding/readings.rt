@@ -1,8 +1,9 @@
 // What can be read off a siding.
-ghost use Rattle.std.specs.Prelude.{◌≡◌, ◌+◌, ◌*◌, slice_index};
+ghost use Rattle.std.specs.Prelude.{◌≡◌, ◌<◌, MatchResult, slice_index};
+ghost use Rattle.refusal.specs.declared.Refusal.TheVariants.{NumbersDiffer};
 ghost use Rattle.motion.specs.Tree.{total};
 ghost use Rattle.motion.specs.Demand.{demand_of};
-ghost use Rattle.motion.specs.State.{figure};
+ghost use Rattle.motion.specs.State.{figure, EqualNumbers};
 ghost use Rattle.siding.specs.Sheet.{mark};
 ghost use Rattle.siding.specs.Stands.{state_of, reading};
 
@@ -15,21 +16,22 @@ impl Siding {
     pub fn sections(&self) -> u16
         ensures { result ≡ (state_of self.now).sections }
     {
-        self.sections as u16
+        // it fits: a refusal of `TryFrom` could not come
+        self.track.sections as u16
     }
 
     // How many wagons there are.
     pub fn wagon_count(&self) -> u16
         ensures { result ≡ total (state_of self.now).sections (state_of self.now).wagons }
     {
-        self.wagon_count
+        self.wagons.in_all
     }
 
     // How many berths there are.
     pub fn berth_count(&self) -> u16
         ensures { result ≡ total (state_of self.now).sections (state_of self.now).berths }
     {
-        self.berth_count
+        self.berths.in_all
     }
 
     // The sum of the demands without their signs, over all sections but the neck.
@@ -43,76 +45,78 @@ impl Siding {
     pub fn head(&self) -> u32
         ensures { result ≡ (state_of self.now).head }
     {
-        self.head
+        self.page.head
     }
 
     // How many moves are on the page.
     pub fn moves(&self) -> u32
         ensures { result ≡ (state_of self.now).moves }
     {
-        self.moves
+        self.page.moves
     }
 
     // How many moves of the page went away, that is, left the figure greater than before.
     pub fn away(&self) -> u32
         ensures { result ≡ (state_of self.now).away }
     {
-        self.away
+        self.page.away
     }
 
-    // The inner neighbour of a section; 0 for the neck.
+    // The inner neighbour of a section; 0 for the neck. This and the two below look the section up alike: one function
+    // over all three would take the reading as a closure.
     pub fn inner_of(&self, section: u16) -> Result<u16, Refusal>
         ensures { result ≡ reading self.now section (slice_index (state_of self.now).inner section) }
     {
-        let s = self.section(section)?;
-        Ok(self.inner[s])
+        let s = self.track.section(section)?;
+        Ok(self.track.inner()[s])
     }
 
     // The mark of a section: 1 for a wagon, plus 2 for a berth.
     pub fn mark_of(&self, section: u16) -> Result<u8, Refusal>
         ensures { result ≡ reading self.now section (mark (state_of self.now) section) }
     {
-        let s = self.section(section)?;
-        Ok(self.wagons[s] + 2 * self.berths[s])
+        let s = self.track.section(section)?;
+        Ok(self.mark_at(s))
     }
 
     // The demand of a section: the berths below it less the wagons below it.
     pub fn demand_of(&self, section: u16) -> Result<i16, Refusal>
         ensures { result ≡ reading self.now section (demand_of (state_of self.now).sections (state_of self.now).inner (state_of self.now).wagons (state_of self.now).berths section) }
     {
-        let s = self.section(section)?;
+        let s = self.track.section(section)?;
         Ok(self.demand[s])
     }
 
-    // Its arrays.
+    // Its track and arrays.
     pub fn layout(&self) -> Layout<'_>
-        ensures sections { result.sections ≡ self.now.sections }
-        ensures inner { result.inner.now ≡ self.now.inner }
-        ensures first { result.first.now ≡ self.now.first }
-        ensures next { result.next.now ≡ self.now.next }
-        ensures wagons { result.wagons.now ≡ self.now.wagons }
-        ensures berths { result.berths.now ≡ self.now.berths }
+        ensures track { result.track.now ≡ self.now.track }
+        ensures wagons { result.wagons.now ≡ (state_of self.now).wagons }
+        ensures berths { result.berths.now ≡ (state_of self.now).berths }
         ensures demand { result.demand.now ≡ self.now.demand }
     {
         Layout {
-            sections: self.sections,
-            inner: &self.inner,
-            first: &self.first,
-            next: &self.next,
-            wagons: &self.wagons,
-            berths: &self.berths,
+            track: &self.track,
+            wagons: &self.wagons.in_section,
+            berths: &self.berths.in_section,
             demand: &self.demand,
         }
     }
 
-    // The slot of a section, if there is such a section.
-    pub(crate) fn section(&self, section: u16) -> Result<usize, Refusal>
-        ensures { result ≡ reading self.now section section }
+    // The refusal of what needs as many wagons as berths, if there are not.
+    pub fn test_numbers(&self) -> Result<(), Refusal>
+        ensures { MatchResult result (λ _. EqualNumbers (state_of self.now)) (λ e. (EqualNumbers (state_of self.now) → ⊥) × (e ≡ NumbersDiffer)) }
     {
-        let s = section as usize;
-        if s >= self.sections {
-            return Err(Refusal::NoSection(s));
+        if self.wagons.in_all != self.berths.in_all {
+            return Err(Refusal::NumbersDiffer);
         }
-        Ok(s)
+        Ok(())
+    }
+
+    // The mark of a section that there is.
+    pub(crate) fn mark_at(&self, s: usize) -> u8
+        requires { s < self.now.track.sections }
+        ensures { result ≡ mark (state_of self.now) s }
+    {
+        self.wagons.in_section[s] + 2 * self.berths.in_section[s]
     }
 }

@@ -15,34 +15,36 @@ impl Siding {
         ensures written { MatchResult result (λ size. (size ≡ length (sheet_of (state_of self.now))) × (buffer.new ≡ overwritten buffer.old 0 (sheet_of (state_of self.now)))) (λ e. (e ≡ OutOfRoom) × (length buffer.old < sheet_size (state_of self.now).sections) × (buffer.new ≡ buffer.old)) }
         ensures sheet_round_trip { IfOk result (λ size. drawn (take size buffer.new) ≡ Ok (page_begun (state_of self.now))) }
     {
-        let size = 4 + 3 * self.sections;
+        let size = 4 + 3 * self.track.sections;
         if buffer.len() < size {
             return Err(Refusal::OutOfRoom);
         }
-        put_word(buffer, 0, self.sections as u16);
-        put_word(buffer, 2, self.wagon_count);
+        // the number fits: a refusal of `TryFrom` could not come
+        put_word(buffer, 0, self.track.sections as u16);
+        put_word(buffer, 2, self.wagons.in_all);
         self.put_inner(buffer);
         self.put_marks(buffer);
         Ok(size)
     }
 
-    // Writes the inner neighbour of each section, two bytes each.
+    // Writes the inner neighbour of each section, two bytes each. The loop goes by number, since a section gives the place
+    // as well as the bytes.
     fn put_inner(&self, buffer: &mut [u8])
-        requires { sheet_size self.now.sections ≤ length buffer.old }
-        ensures { buffer.new ≡ overwritten buffer.old 4 (flat_map (λ s. two_bytes (slice_index self.now.inner s)) (range_with_len 0 self.now.sections)) }
+        requires { sheet_size self.now.track.sections ≤ length buffer.old }
+        ensures { buffer.new ≡ overwritten buffer.old 4 (flat_map (λ s. two_bytes (slice_index self.now.track.inner s)) (range_with_len 0 self.now.track.sections)) }
     {
-        for s in 0..self.sections {
-            put_word(buffer, 4 + 2 * s, self.inner[s]);
+        for s in 0..self.track.sections {
+            put_word(buffer, 4 + 2 * s, self.track.inner[s]);
         }
     }
 
-    // Writes the mark of each section.
+    // Writes the mark of each section, by number too.
     fn put_marks(&self, buffer: &mut [u8])
-        requires { sheet_size self.now.sections ≤ length buffer.old }
-        ensures { buffer.new ≡ overwritten buffer.old (4 + 2 * self.now.sections) (map (mark (state_of self.now)) (range_with_len 0 self.now.sections)) }
+        requires { sheet_size self.now.track.sections ≤ length buffer.old }
+        ensures { buffer.new ≡ overwritten buffer.old (4 + 2 * self.now.track.sections) (map (mark (state_of self.now)) (range_with_len 0 self.now.track.sections)) }
     {
-        for s in 0..self.sections {
-            buffer[4 + 2 * self.sections + s] = self.wagons[s] + 2 * self.berths[s];
+        for s in 0..self.track.sections {
+            buffer[4 + 2 * self.track.sections + s] = self.mark_at(s);
         }
     }
 }
@@ -52,6 +54,5 @@ fn put_word(buffer: &mut [u8], at: usize, value: u16)
     requires { at + 1 < length buffer.old }
     ensures { buffer.new ≡ overwritten buffer.old at (two_bytes value) }
 {
-    buffer[at] = (value / 256) as u8;
-    buffer[at + 1] = (value % 256) as u8;
+    buffer[at..at + 2].copy_from_slice(&value.to_be_bytes());
 }

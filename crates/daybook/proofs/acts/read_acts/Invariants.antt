@@ -1,10 +1,8 @@
-use Rattle.std.proofs.Common.{length, vec_items}
+use Rattle.std.proofs.Common.{vec_items}
+use Rattle.std.specs.Slice.Iter.{split_inclusive_rest}
 use Rattle.daybook.specs.Input.{cut}
 use Rattle.daybook.proofs.ActsRead.{Read}
 use Rattle.daybook.proofs.acts.read_acts.Given as goal
 
-abbrev pub invariant-loop-rest : goal.invariant-loop-rest
-invariant-loop-rest l = Read (cut l.initial.rest) (cut l.rest) (vec_items l.acts)
-
-abbrev pub decreases-loop-rest : goal.decreases-loop-rest
-decreases-loop-rest l = length l.rest
+abbrev pub invariant-loop-line : goal.invariant-loop-line
+invariant-loop-line l = Read (cut l.initial.lines) (cut (split_inclusive_rest l.line-iterator)) (vec_items l.acts)

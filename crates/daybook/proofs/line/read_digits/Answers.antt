@@ -1,27 +1,25 @@
-use Rattle.std.proofs.Common.{sym, ◌∙◌, arith}
-use Rattle.std.proofs.lemmas.List.{take_rest}
-use Rattle.daybook.proofs.Digits.{stops, too_large, goes_on, nothing_follows}
+use Rattle.std.proofs.Common.{sym}
+use Rattle.daybook.proofs.Digits.{without_end, is_text, parsed}
 use Rattle.daybook.proofs.line.read_digits.Goals as goal
 
-pub returns-then-not-is_ascii_digit : goal.returns-then-not-is_ascii_digit
-returns-then-not-is_ascii_digit c =
-    let s = c.args.digits.now in
-    let e = stops s c.loop-n.n c.loop-n.value c.loop-n-test.true (sym c.if-not-is_ascii_digit.ensures.value) in
-    let rest = take_rest s c.loop-n.n in
-    cc c.loop-n.invariant.1
+pub returns-in_err-digits_end : goal.returns-in_err-digits_end
+returns-in_err-digits_end c = rw c.from_residual.ensures (without_end c.args.rest.now (sym c.in_err-digits_end.ensures.place))
 
-pub returns-then-value-gt-LARGEST : goal.returns-then-value-gt-LARGEST
-returns-then-value-gt-LARGEST c =
-    let digit = sym c.if-not-is_ascii_digit.ensures.value in
-    sym c.loop-n.invariant.1
-    ∙ too_large c.args.digits.now c.loop-n.n c.loop-n.value c.loop-n-test.true digit (omega arith)
+pub returns-in_err-ok : goal.returns-in_err-ok
+returns-in_err-ok c =
+    let end = sym c.in_ok-digits_end.ensures.place in
+    absurd (rw (← c.in_err-ok.ensures.value) at (is_text c.args.rest.now c.in_ok-digits_end.field-0 end _ _ c.from_utf8.result _ c.split_at.ensures.front c.from_utf8.ensures.cases))
 
-pub loop-n-preserved : goal.loop-n-preserved
-loop-n-preserved c =
-    let digit = sym c.if-not-is_ascii_digit.ensures.value in
-    let e = goes_on c.args.digits.now c.loop-n.n c.loop-n.value c.loop-n-test.true digit (omega arith) in
-    (omega arith, cc c.loop-n.invariant.1)
+pub returns-in_err-number : goal.returns-in_err-number
+returns-in_err-number c =
+    let end = sym c.in_ok-digits_end.ensures.place in
+    let text = rw (← c.in_ok-ok.ensures.value) at (is_text c.args.rest.now c.in_ok-digits_end.field-0 end _ _ c.from_utf8.result _ c.split_at.ensures.front c.from_utf8.ensures.cases) in
+    let read = parsed c.args.rest.now c.in_ok-digits_end.field-0 end c.parse.result c.requires (rw text at c.parse.ensures.value.0) in
+    rw c.from_residual-in_err-number.ensures (rw (← c.in_err-number.ensures.value) at read)
 
 pub returns : goal.returns
 returns c =
-    sym c.loop-n.invariant.1 ∙ nothing_follows c.args.digits.now c.loop-n.n c.loop-n.value c.loop-n-test.false
+    let end = sym c.in_ok-digits_end.ensures.place in
+    let text = rw (← c.in_ok-ok.ensures.value) at (is_text c.args.rest.now c.in_ok-digits_end.field-0 end _ _ c.from_utf8.result _ c.split_at.ensures.front c.from_utf8.ensures.cases) in
+    let read = parsed c.args.rest.now c.in_ok-digits_end.field-0 end c.parse.result c.requires (rw text at c.parse.ensures.value.0) in
+    rw c.split_at.ensures.back (rw (← c.in_ok-number.ensures.value) at read)

@@ -1,12 +1,11 @@
 use Rattle.std.proofs.Common.{◌≡◌, ℤ, sym, ◌∙◌, arith, w16, SFits, to_z, of_z, rules}
 use Rattle.std.proofs.lemmas.Int.{to_z-of_z}
-use Rattle.motion.specs.Tree.{under}
 use Rattle.motion.specs.Demand.{demand_of}
 use Rattle.quoting.proofs.Quotes.{read_is, quote_begins, quote_goes_on, quote_ends}
 use Rattle.quoting.proofs.quote.quote.Goals as goal
 
 pub loop-s-init : goal.loop-s-init
-loop-s-init g c = (omega arith, quote_begins (g.F.Tariff.rule c.args.tariff.now) c.args.siding.now _ c.nothing-sum.ensures)
+loop-s-init g c = record { some = omega arith; sum_is = quote_begins (g.F.Tariff.rule c.args.tariff.now) c.args.siding.now _ c.nothing-sum.ensures }
 
 pub loop-s-preserved : goal.loop-s-preserved
 loop-s-preserved g c =
@@ -15,17 +14,18 @@ loop-s-preserved g c =
     let d : ℤ = c.in_ok-demand.demand in
     let fits : SFits w16 d = search rules in
     let raw : to_z w16 (of_z w16 d) ≡ d = to_z-of_z w16 d fits in
-    let value : d ≡ demand_of x.sections x.inner x.wagons x.berths s =
-    read_is x s (demand_of x.sections x.inner x.wagons x.berths s) d (omega (arith, c.loop-s-test.true, c.sections-s-end.ensures)) c.in_ok-demand.ensures in (
-      omega (arith, c.loop-s.invariant.0),
-      quote_goes_on (g.F.Tariff.rule c.args.tariff.now) x c.loop-s.sum c.share.result c.join-sum.result s
-          c.loop-s.invariant.0 c.loop-s.invariant.1 (c.share.ensures (under x.sections x.inner x.berths s) (under x.sections x.inner x.wagons s) (raw ∙ value)) c.join-sum.ensures,
-    )
+    let value : d ≡ demand_of x.track.sections x.track.inner x.wagons.in_section x.berths.in_section s =
+    read_is x s (demand_of x.track.sections x.track.inner x.wagons.in_section x.berths.in_section s) d (omega (arith, c.loop-s-test.true, c.sections-s-end.ensures)) c.in_ok-demand.ensures in
+    record {
+      some = omega arith;
+      sum_is = quote_goes_on (g.F.Tariff.rule c.args.tariff.now) x c.loop-s.sum c.share.result c.join-sum.result s (to_z w16 (of_z w16 d))
+          c.loop-s.invariant.some (raw ∙ value) c.loop-s.invariant.sum_is c.share.ensures c.join-sum.ensures;
+    }
 
 pub returns : goal.returns
 returns g c =
     quote_ends (g.F.Tariff.rule c.args.tariff.now) c.args.siding.now (g.met.F.Tariff.laws c.args.tariff.now)
-    (sym c.wagon_count.ensures ∙ c.if-wagon_count-berth_count.false ∙ c.berth_count.ensures)
+    c.in_ok-test_numbers.ensures
     c.loop-s.sum c.loop-s.s
-    (omega (arith, c.loop-s-test.false, c.sections-s-end.ensures, c.args.siding.now.some, c.loop-s.auto.s-end (omega (arith, c.sections-s-end.ensures, c.args.siding.now.some))))
-    c.loop-s.invariant.1
+    (omega (arith, c.loop-s-test.false, c.sections-s-end.ensures, c.args.siding.now.track.some, c.loop-s.auto.s-end (omega (arith, c.sections-s-end.ensures, c.args.siding.now.track.some))))
+    c.loop-s.invariant.sum_is

@@ -1,16 +1,13 @@
-use Rattle.siding.specs.Stands.{state_of}
-use Rattle.planning.proofs.Kept.{promised}
-use Rattle.quoting.specs.Promise.{Passage}
-use Rattle.quoting.proofs.Kept.{passed}
+use Rattle.siding.specs.Sheet.{drawn}
+use Rattle.quoting.proofs.Quotes.{quote_least, all_told}
 use Rattle.quoting.proofs.replay.replay.Goals as goal
 
 pub returns : goal.returns
 returns g c =
-    let accepted = c.in_ok-draw_up.ensures.drawn in
-    let start = c.draw_up.new.self in
-    let end = c.act_all.new.siding in
-    let passage : Passage c.args.acts.now (state_of start) (state_of end) = passed c.args.acts.now start end (promised c.args.acts.now start end c.act_all.ensures) in
+    let rule = g.F.Tariff.rule c.args.tariff.now in
+    let end = c.replay.new.siding in
+    let least = quote_least rule end (g.met.F.Tariff.laws c.args.tariff.now) c.quote-quote.result c.quote-quote.ensures in
     record {
-      run = rw accepted passage;
-      answer = rw accepted c.account.ensures;
+      run = c.replay.ensures.run;
+      answer = all_told rule end (drawn c.args.sheet.now) c.in_ok-page.page c.quote-quote.result c.in_ok-page.ensures.answer least;
     }

@@ -6,5 +6,5 @@ use Rattle.siding.proofs.tally.demands.Given as goal
 abbrev pub invariant-loop-s : goal.invariant-loop-s
 invariant-loop-s l =
     (length l.demand ≡ 512)
-    × Gathered l.s l.n l.inner l.wagons l.berths l.demand
-    × ClearDemands l.n l.demand
+    × Gathered l.s l.track.sections l.track.inner l.wagons.in_section l.berths.in_section l.demand
+    × ClearDemands l.track.sections l.demand

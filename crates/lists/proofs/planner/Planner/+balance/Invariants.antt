@@ -1,19 +1,15 @@
 use Rattle.std.proofs.Common.{◌≡◌, ◌-◌}
-use Rattle.siding.proofs.Row.{to_go}
-use Rattle.lists.specs.Planner.{Kept}
+use Rattle.siding.specs.Branches.{row}
 use Rattle.lists.specs.Balanced.{HasRoom}
 use Rattle.lists.proofs.Rows.{Row}
 use Rattle.lists.proofs.planner.Planner.+balance.Given as goal
 
 abbrev pub decreases-balance : goal.decreases-balance
-decreases-balance g l = l.siding.now.sections - l.u
+decreases-balance g l = l.self.now.siding.now.track.sections - l.u
 
 abbrev pub invariant-loop-branch : goal.invariant-loop-branch
-invariant-loop-branch g l =
-    Kept l.siding l.self
-    × Row g.W.EachMove.writer l.siding l.u l.branch l.initial.self.wagons l.initial.writer l.initial.list l.self.wagons l.writer l.list
-    × HasRoom l.siding l.self.wagons l.list
-    × (l.list.slots.ghost_name ≡ l.initial.list.slots.ghost_name)
-
-abbrev pub decreases-loop-branch : goal.decreases-loop-branch
-decreases-loop-branch g l = to_go l.siding l.branch
+invariant-loop-branch g l = record {
+  siding : l.self.siding.now ≡ l.fn.self.siding.now;
+  row : Row g.W.EachMove.writer l.fn.self.siding.now l.u (row l.branch-iterator) l.initial.self.wagons l.initial.book l.self.wagons l.book;
+  room : HasRoom l.fn.self.siding.now l.self.wagons l.book;
+}

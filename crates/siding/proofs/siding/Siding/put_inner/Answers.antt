@@ -11,7 +11,7 @@ loop-s-init c = overwritten_none c.args.buffer.now 4
 pub loop-s-preserved : goal.loop-s-preserved
 loop-s-preserved c =
     let s : ℕ = c.loop-s.s in
-    let f : ℕ → ℕ = λ t. get_or c.args.self.now.inner t 0 in
+    let f : ℕ → ℕ = λ t. get_or c.args.self.now.track.inner t 0 in
     let old = c.args.buffer.now in
     let long : length (pairs f 0 s) ≡ 2 * s = length_pairs f 0 s in
     c.put_word.ensures
@@ -22,5 +22,5 @@ loop-s-preserved c =
 pub returns : goal.returns
 unfolding pairs
 returns c =
-    let e : c.loop-s.s ≡ c.args.self.now.sections = omega arith in
-    c.loop-s.invariant ∙ ap (λ k. overwritten c.args.buffer.now 4 (pairs (λ t. get_or c.args.self.now.inner t 0) 0 k)) e
+    let e : c.loop-s.s ≡ c.args.self.now.track.sections = omega arith in
+    c.loop-s.invariant ∙ ap (λ k. overwritten c.args.buffer.now 4 (pairs (λ t. get_or c.args.self.now.track.inner t 0) 0 k)) e

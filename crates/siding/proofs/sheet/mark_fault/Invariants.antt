@@ -1,6 +1,0 @@
-use Rattle.std.proofs.Common.{◌≡◌, None}
-use Rattle.siding.specs.Sheet.{lowest, mark_at_fault}
-use Rattle.siding.proofs.sheet.mark_fault.Given as goal
-
-abbrev pub invariant-loop-s : goal.invariant-loop-s
-invariant-loop-s l = lowest (mark_at_fault l.sheet) l.s ≡ None

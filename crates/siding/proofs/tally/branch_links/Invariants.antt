@@ -1,6 +1,0 @@
-use Rattle.std.proofs.Common.{◌≡◌, length}
-use Rattle.siding.proofs.Links.{Linked}
-use Rattle.siding.proofs.tally.branch_links.Given as goal
-
-abbrev pub invariant-loop-s : goal.invariant-loop-s
-invariant-loop-s l = (length l.first ≡ 512) × (length l.next ≡ 512) × Linked l.s l.n l.inner l.first l.next

@@ -1,5 +1,0 @@
-use Rattle.standing.proofs.Written.{WrittenFrom}
-use Rattle.standing.proofs.standings.put_standing.Given as goal
-
-abbrev pub invariant-loop-section : goal.invariant-loop-section
-invariant-loop-section l = WrittenFrom l.n l.k l.number l.initial.buffer l.buffer l.section l.wagons l.left

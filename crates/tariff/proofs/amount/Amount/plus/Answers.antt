@@ -1,6 +1,0 @@
-use Rattle.std.proofs.Common.{rules}
-use Rattle.tariff.specs.Amounts.{amount_same}
-use Rattle.tariff.proofs.amount.Amount.plus.Goals as goal
-
-pub returns : goal.returns
-returns c = amount_same _ _ (search rules)
