@@ -41,8 +41,7 @@ fn no_such_section(rt: HostRuntime) {
 
 #[test]
 fn sheet_is_written(rt: HostRuntime) -> Result<(), Fail> {
-    let mut siding = Siding::bare();
-    siding.draw_up(FORK)?;
+    let siding = fork()?;
     let mut short = [7u8; 15];
     assert_eq!(rt; siding.write_sheet(&mut short), Err(Refusal::OutOfRoom));
     assert!(rt; short == [7u8; 15]);
@@ -56,8 +55,7 @@ fn sheet_is_written(rt: HostRuntime) -> Result<(), Fail> {
 // A refused sheet leaves the siding as it was.
 #[test]
 fn refused_sheet_changes_nothing(rt: HostRuntime) -> Result<(), Fail> {
-    let mut siding = Siding::bare();
-    siding.draw_up(FORK)?;
+    let mut siding = fork()?;
     assert_eq!(rt;
         siding.draw_up(b"\x00\x01\x00\x01\x00\x00\x00"),
         Err(Refusal::WagonsMiscounted)
@@ -159,14 +157,20 @@ fn wagons_and_berths(rt: HostRuntime) -> Result<(), Fail> {
     Ok(())
 }
 
-// The page takes half a million moves and no more.
-#[test]
-fn page_fills(rt: HostRuntime) -> Result<(), Fail> {
-    let mut siding = fork()?;
+// Fills a page that was just begun, with as many moves away as back.
+fn fill_page(siding: &mut Siding) -> Result<(), Refusal> {
     for _ in 0..250_000u32 {
         siding.hand_move(3, 1)?;
         siding.hand_move(1, 3)?;
     }
+    Ok(())
+}
+
+// The page takes half a million moves and no more.
+#[test]
+fn page_fills(rt: HostRuntime) -> Result<(), Fail> {
+    let mut siding = fork()?;
+    fill_page(&mut siding)?;
     assert_eq!(rt; siding.hand_move(3, 1), Err(Refusal::PageFull));
     assert_eq!(rt; siding.moves(), 500_000);
     assert_eq!(rt; siding.away(), 250_000);
@@ -232,10 +236,7 @@ fn uneven_numbers(rt: HostRuntime) -> Result<(), Fail> {
 #[test]
 fn step_on_a_full_page(rt: HostRuntime) -> Result<(), Fail> {
     let mut siding = fork()?;
-    for _ in 0..250_000u32 {
-        siding.hand_move(3, 1)?;
-        siding.hand_move(1, 3)?;
-    }
+    fill_page(&mut siding)?;
     assert_eq!(rt; siding.step(), Err(Refusal::PageFull));
     siding.turn_page();
     for _ in 0..3 {

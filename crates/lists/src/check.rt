@@ -34,8 +34,7 @@ fn verdict(siding: &Siding, moves: &[Move]) -> Result<usize, Refusal>
     }
 }
 
-// Where the moves lead, one after another, if each is legal there. A loop, since `try_fold` would hand on 512 bytes by
-// value with each move.
+// Where the moves lead, one after another, if each is legal there.
 fn follow(
     track: &Track,
     start: &[u8; MOST_SECTIONS],

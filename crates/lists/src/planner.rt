@@ -16,6 +16,7 @@ mod balancing;
 mod carrying;
 mod searching;
 
+// Sections are bare numbers: a type that tied one to the siding would borrow the planner that each call changes.
 // Wherever the wagons are by now, there are as many as berths, the demands are true, and no branch asks that a cursor
 // has passed.
 #[derive(Drop)]
@@ -25,8 +26,8 @@ pub(crate) struct Planner<'a> {
     // how many wagons each section holds by now, and its demand
     wagons: [u8; MOST_SECTIONS],
     demand: [i16; MOST_SECTIONS],
-    // the cursors: for each section and either way, the branch that the search for one that asks has come to; 0, which
-    // is no branch, past the last. While moves are planned a demand only comes nearer to 0, so a branch that does not ask
+    // the cursors: for each section and either way, the branch that the search for one that asks has come to; 0, and no
+    // Option, past the last: no branch is section 0. While moves are planned a demand only comes nearer to 0, so a branch that does not ask
     // never asks again, and the search goes on from there. There is an array for each way, and none is lent for writing:
     // what is kept of it would have to hold of whatever the borrower writes
     outward: [u16; MOST_SECTIONS],

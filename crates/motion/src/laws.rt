@@ -22,33 +22,27 @@ pub fn largest_figure() -> u32
 }
 
 // What lies below a section, and what its sum is.
-pub fn sums_stand() -> u8
+pub fn sums_stand()
     ensures below_is_tested { BelowIsTested }
     ensures sum_below_splits { SumBelowSplits }
-{
-    0
-}
+{}
 
 // What moves do to the demands, and that no filling list is shorter than the figure.
-pub fn moves_stand() -> u8
+pub fn moves_stand()
     ensures one_demand_changes { OneDemandChanges }
     ensures crossings_balance { CrossingsBalance }
     ensures figure_is_a_floor { FigureIsAFloor }
-{
-    0
-}
+{}
 
 // Where calls lead is no matter of choice.
-pub fn runs_stand() -> u8
+pub fn runs_stand()
     ensures one_end { OneEnd }
     ensures some_end { SomeEnd }
     ensures every_split { EverySplit }
-{
-    0
-}
+{}
 
 // That one move is due while some section is unsettled, what it does, and where stepping on leads.
-pub fn steps_stand() -> u8
+pub fn steps_stand()
     ensures one_due { OneDue }
     ensures due_while_unsettled { DueWhileUnsettled }
     ensures due_is_legal { DueIsLegal }
@@ -56,6 +50,4 @@ pub fn steps_stand() -> u8
     ensures one_stepping { OneStepping }
     ensures stepping_fills { SteppingFills }
     ensures steps_are_the_plan { StepsAreThePlan }
-{
-    0
-}
+{}

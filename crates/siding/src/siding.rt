@@ -8,6 +8,7 @@ use crate::track::{MOST_SECTIONS, Track};
 
 // A siding of 1 to 512 sections. Every array has a slot for each section, section 0 first; the slots past them hold 0,
 // so two sidings that stand alike are the same value. It lives in fixed memory, so that no call can fail for want of it.
+// An array to each thing that is kept: they are lent and copied apart, as a plan copies wagons and demands alone.
 // It has no `impl Model`: it is `Copy`, so its value would have to give the links, demands and figure back.
 #[derive(Clone, Copy)]
 pub struct Siding {

@@ -1,5 +1,4 @@
 // What is counted from the sections when a siding is drawn up, and brought up to date when its wagons or berths change.
-// Where a loop goes on with a number that it reads, `as` widens it: a call of `From` would stand between the two.
 ghost use Rattle.std.specs.Prelude.{◌≡◌, ℕ, ◌+◌, ◌<◌, ◌≤◌, length, pos, ◌+ℤ◌, ◌-ℤ◌, if◌then◌else◌, slice_index, slice_index_or, unsigned_abs};
 ghost use Rattle.motion.specs.Tree.{is_below};
 ghost use Rattle.siding.specs.Kept.{sizes, Clear, ClearDemands, TrueDemands};
@@ -31,7 +30,7 @@ pub(crate) fn demands(track: &Track, wagons: &Placed, berths: &Placed) -> [i16; 
 {
     let mut demand = own_demands(wagons, berths);
     for s in (1..track.sections).rev() {
-        let p = track.inner[s] as usize;
+        let p = usize::from(track.inner[s]);
         demand[p] += demand[s];
     }
     demand
@@ -81,7 +80,7 @@ pub(crate) fn shift(
         let was = demand[u];
         demand[u] = was + by;
         sum = resized(sum, was, demand[u]);
-        u = track.inner[u] as usize;
+        u = usize::from(track.inner[u]);
     }
     demand[0] += by;
     sum

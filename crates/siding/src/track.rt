@@ -11,8 +11,9 @@ pub struct Track {
     pub(crate) sections: usize,
     // the inner neighbour of each section
     pub(crate) inner: [u16; MOST_SECTIONS],
-    // the lowest branch of each section, and the next higher branch of its inner neighbour; 0, which is no branch, where
-    // there is none. Memory is fixed, so the tree is kept in arrays; `Branches` is all that follows these links
+    // the lowest branch of each section, and the next higher branch of its inner neighbour; 0 where there is none, and no
+    // Option: no branch is section 0. Memory is fixed, so the tree is kept in arrays; `Branches` is all that follows
+    // these links
     first: [u16; MOST_SECTIONS],
     next: [u16; MOST_SECTIONS],
     ghost long: { (length inner ≡ 512) × (length first ≡ 512) × (length next ≡ 512) },

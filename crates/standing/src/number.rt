@@ -20,7 +20,7 @@ pub fn number(standing: &[u8]) -> Result<Numbered, Refusal>
     test_size(standing.len())?;
     let mut wagons = 0;
     let mut number = 0;
-    // A loop: each sum fits because of the bytes before it, and of the closure of a try_fold that was not proved.
+    // A loop: each sum fits because of the bytes before it, and in the closure of a try_fold that was not proved.
     for (section, mark) in standing.iter().enumerate() {
         match *mark {
             0 => {}

@@ -1,4 +1,5 @@
-// The balancing recursion: section by section, from the neck outward, each is settled before those below it.
+// The balancing recursion: section by section, from the neck outward, each is settled before those below it. Room in the
+// book is asked and not kept by it: it is as much as the planner's figure, so a book that kept it would hold the planner.
 ghost use Rattle.std.specs.Prelude.{◌≡◌, ◌<◌, [], ◌∷◌, length};
 ghost use Rattle.motion.specs.Due.{Ready, over};
 ghost use Rattle.motion.specs.Moves.{moved};
@@ -58,13 +59,11 @@ impl Planner<'_> {
             self.hand_over(way, u, v, book);
             return;
         }
-        match self.asking(way, v) {
-            Some(t) => {
-                self.shift(way, v, t, book);
-                self.hand_over(way, u, v, book);
-            }
-            None => unreachable(),
-        }
+        let Some(t) = self.asking(way, v) else {
+            unreachable()
+        };
+        self.shift(way, v, t, book);
+        self.hand_over(way, u, v, book);
     }
 
     // Makes one move, and writes it down.

@@ -70,7 +70,7 @@ pub(crate) fn first_branches(track: &Track) -> [u16; MOST_SECTIONS]
     array::from_fn(|section| first_branch(track, section))
 }
 
-// The lowest branch of a section, or 0; a section fits here too.
+// The lowest branch of a section, or 0 where it has none, as the cursors have it; a section fits here too.
 fn first_branch(track: &Track, section: usize) -> u16
     ensures { IsLowestBranch track.now.sections track.now.inner section result }
 {

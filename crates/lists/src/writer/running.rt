@@ -19,6 +19,8 @@ impl<'a, F: Tariff> EachMove for Running<'a, F> {
     ghost writer = { sums_writer F.Tariff.rule };
 
     fn write(&mut self, m: Move) -> F::Sum {
+        // `siding` asks for the same two of a hand move, but goes on to a demand: as a pair they would be made and taken
+        // apart in both.
         let (higher, way) = if m.to < m.from {
             (m.from, Way::Inward)
         } else {

@@ -12,6 +12,8 @@ use crate::siding::Siding;
 use crate::tally::shift;
 use refusal::Refusal;
 
+// What is left of the four calls differs in which of the two changes, how, and by which sign; one function for them would
+// take all three.
 impl Siding {
     // Adds a wagon to an empty section.
     pub fn put(&mut self, section: u16) -> Result<(), Refusal>

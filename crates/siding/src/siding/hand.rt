@@ -1,5 +1,4 @@
-// Moving a wagon by hand. Sections are widened by `as`: what is proved speaks of the move's own numbers, and a call of
-// `From` would put others in their place.
+// Moving a wagon by hand.
 ghost use Rattle.std.specs.Prelude.{◌≡◌, ◌+◌, ◌<◌, ◌≤◌, pos, ◌+ℤ◌, Err, MatchResult, nat_lt, slice_index_or, unsigned_abs};
 ghost use Rattle.motion.specs.Moves.{Legal};
 ghost use Rattle.motion.specs.declared.calls.Call.TheVariants.{Hand};
@@ -28,10 +27,11 @@ impl Siding {
     pub fn hand_move(&mut self, from: u16, to: u16) -> Result<(), Refusal>
         ensures { CarriedOut (outcome (Hand (record { from = from; to = to })) (state_of self.old)) result self.old self.new }
     {
-        self.may_move(Move { from, to })?;
-        let crossing = self.crossing(from, to);
+        let hand = Move { from, to };
+        self.may_move(hand)?;
+        let crossing = self.crossing(hand);
         let mut next = *self;
-        next.wagons.carry(from as usize, to as usize);
+        next.wagons.carry(usize::from(from), usize::from(to));
         next.demand[crossing.section] = crossing.demand;
         next.figure = crossing.figure;
         next.page.moves += 1;
@@ -53,14 +53,14 @@ impl Siding {
 
     // What a legal move changes: inward the demand of the section that it leaves rises, outward that of the section
     // that it enters falls.
-    fn crossing(&self, from: u16, to: u16) -> Crossing
-        requires { Legal self.now.track.sections self.now.track.inner self.now.wagons.in_section (record { from = from; to = to }) }
-        ensures { Crosses self.now (record { from = from; to = to }) result }
+    fn crossing(&self, hand: Move) -> Crossing
+        requires { Legal self.now.track.sections self.now.track.inner self.now.wagons.in_section hand }
+        ensures { Crosses self.now hand result }
     {
-        if to < from {
-            self.crossed(from as usize, 1)
+        if hand.to < hand.from {
+            self.crossed(usize::from(hand.from), 1)
         } else {
-            self.crossed(to as usize, -1)
+            self.crossed(usize::from(hand.to), -1)
         }
     }
 

@@ -1,5 +1,5 @@
-// The step: the next move of the plan. A section is a bare number here: no type could tie it to this siding, so each
-// function asks that it is one of its sections.
+// The step: the next move of the plan. A section is a bare number here, and each function asks that it is one of this
+// siding's: a type that ties it would borrow the siding, and every branch that the track gives would be wrapped again.
 ghost use Rattle.std.specs.Prelude.{◌≡◌, ◌↔◌, ℕ, ◌<◌, pos, IsTrue};
 ghost use Rattle.motion.specs.Due.{Asks, LowestAsking};
 ghost use Rattle.motion.specs.Demand.{demand_of};
@@ -64,7 +64,8 @@ impl Siding {
         }
     }
 
-    // The first unsettled section at or below the branches of u.
+    // The first unsettled section at or below the branches of u. A loop: the closure of a `find_map` would be one more
+    // function of this cycle, with clauses of its own.
     #[cycle(visit_visit_row)]
     fn visit_row(&self, u: usize) -> Option<usize>
         requires { u < self.now.track.sections }

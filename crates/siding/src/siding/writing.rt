@@ -27,8 +27,8 @@ impl Siding {
         Ok(size)
     }
 
-    // Writes the inner neighbour of each section, two bytes each. The loop goes by number, since a section gives the place
-    // as well as the bytes.
+    // Writes the inner neighbour of each section, two bytes each. By number: after a loop over the buffer's own chunks,
+    // zipped with the sections, nothing is known of what was written.
     fn put_inner(&self, buffer: &mut [u8])
         requires { sheet_size self.now.track.sections ≤ length buffer.old }
         ensures { buffer.new ≡ overwritten buffer.old 4 (flat_map (λ s. two_bytes (slice_index self.now.track.inner s)) (range_with_len 0 self.now.track.sections)) }
@@ -38,7 +38,7 @@ impl Siding {
         }
     }
 
-    // Writes the mark of each section, by number too.
+    // Writes the mark of each section, by number likewise.
     fn put_marks(&self, buffer: &mut [u8])
         requires { sheet_size self.now.track.sections ≤ length buffer.old }
         ensures { buffer.new ≡ overwritten buffer.old (4 + 2 * self.now.track.sections) (map (mark (state_of self.now)) (range_with_len 0 self.now.track.sections)) }

@@ -32,7 +32,7 @@ overflow_add-demand c =
     let small = gathered_small c.args.track.now.sections inner c.args.wagons.now.in_section c.args.berths.now.in_section (track_tree c.args.track.now) in
     let a = small k (k - 1) _ c.args.track.now.most (λ s l. c.args.wagons.now.single s) (λ s l. c.args.berths.now.single s) (omega arith) (c.loop-s.invariant.1 (k - 1) (omega arith)) in
     let b = small k (get_or inner (k - 1) 0) _ c.args.track.now.most (λ s l. c.args.wagons.now.single s) (λ s l. c.args.berths.now.single s) (omega arith) (c.loop-s.invariant.1 (get_or inner (k - 1) 0) (omega arith)) in
-    omega (arith, ints)
+    rw c.from-p.ensures (omega (arith, ints))
 
 pub loop-s-preserved : goal.loop-s-preserved
 loop-s-preserved c =
@@ -43,9 +43,9 @@ loop-s-preserved c =
     let a = small k (k - 1) _ c.args.track.now.most (λ s l. c.args.wagons.now.single s) (λ s l. c.args.berths.now.single s) (omega arith) (c.loop-s.invariant.1 (k - 1) (omega arith)) in
     let b = small k (get_or inner (k - 1) 0) _ c.args.track.now.most (λ s l. c.args.wagons.now.single s) (λ s l. c.args.berths.now.single s) (omega arith) (c.loop-s.invariant.1 (get_or inner (k - 1) 0) (omega arith)) in (
       simp length-set c.loop-s.invariant.0,
-      gathered_more c.args.track.now.sections inner c.args.wagons.now.in_section c.args.berths.now.in_section (track_tree c.args.track.now) k c.loop-s.demand _
-          (omega arith) (omega arith) (omega arith) c.loop-s.invariant.1 (omega (arith, ints)),
-      λ u l. let ne : u ≢ get_or inner (k - 1) 0 = omega arith in get_or-set_other c.loop-s.demand (get_or inner (k - 1) 0) u _ (pos 0) ne ∙ c.loop-s.invariant.2 u l,
+      rw c.from-p.ensures (gathered_more c.args.track.now.sections inner c.args.wagons.now.in_section c.args.berths.now.in_section (track_tree c.args.track.now) k c.loop-s.demand _
+          (omega arith) (omega arith) (omega arith) c.loop-s.invariant.1 (omega (arith, ints))),
+      λ u l. let ne : u ≢ get_or inner (k - 1) 0 = omega arith in rw c.from-p.ensures (get_or-set_other c.loop-s.demand (get_or inner (k - 1) 0) u _ (pos 0) ne ∙ c.loop-s.invariant.2 u l),
     )
 
 pub returns : goal.returns

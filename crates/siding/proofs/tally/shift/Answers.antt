@@ -49,7 +49,7 @@ loop-u-preserved c =
     let now = ap nat_abs (stored_is (get_or (set d u z) u (pos 0)) (omega (arith, ap nat_abs same)) ∙ same) in (
       simp length-set c.loop-u.invariant.0,
       omega arith,
-      passed_more n inner (track_tree c.args.track.now) c.args.at u B c.args.demand.now d c.loop-u.invariant.1 (omega arith) c.loop-u.invariant.2 (omega arith) z is,
+      rw c.from-u.ensures (passed_more n inner (track_tree c.args.track.now) c.args.at u B c.args.demand.now d c.loop-u.invariant.1 (omega arith) c.loop-u.invariant.2 (omega arith) z is),
       (λ v l. let ne : v ≢ u = omega arith in get_or-set_other d u v z (pos 0) ne ∙ c.loop-u.invariant.3 v l),
       omega arith,
     )

@@ -20,10 +20,10 @@ pub unreachable-requires : goal.unreachable-requires
 unreachable-requires g t c =
     let p = c.args.self.now in
     let waits = ready_unless_open c.args.way p.wagons c.args.v c.is_open.result c.is_open.ensures c.if-is_open.false in
-    some_asks g.W.EachMove.writer p.siding.now p.wagons (even p) c.args.way c.args.u c.args.v c.requires.lowest c.requires.ready waits c.in-None.ensures.asking
+    some_asks g.W.EachMove.writer p.siding.now p.wagons (even p) c.args.way c.args.u c.args.v c.requires.lowest c.requires.ready waits c.in_default.ensures.asking
 
-pub hand_over-requires-in-Some-clause-can : goal.hand_over-requires-in-Some-clause-can
-hand_over-requires-in-Some-clause-can g t c =
+pub hand_over-requires-2-clause-can : goal.hand_over-requires-2-clause-can
+hand_over-requires-2-clause-can g t c =
     let p = c.args.self.now in
     let asking = c.in-Some.ensures in
     let waits = ready_unless_open c.args.way p.wagons c.args.v c.is_open.result c.is_open.ensures c.if-is_open.false in
@@ -31,8 +31,8 @@ hand_over-requires-in-Some-clause-can g t c =
     can_carry c.args.way c.shift.new.self c.args.u c.args.v p.siding.now (c.shift.ensures.siding ∙ asking.siding)
     (served_after g.W.EachMove.writer p.siding.now p.wagons (even p) c.args.way c.args.u c.args.v c.requires.lowest c.requires.ready waits c.in-Some.t asking.asking _ made)
 
-pub hand_over-requires-in-Some-clause-room : goal.hand_over-requires-in-Some-clause-room
-hand_over-requires-in-Some-clause-room g t c =
+pub hand_over-requires-2-clause-room : goal.hand_over-requires-2-clause-room
+hand_over-requires-2-clause-room g t c =
     let p = c.args.self.now in
     let asking = c.in-Some.ensures in
     let waits = ready_unless_open c.args.way p.wagons c.args.v c.is_open.result c.is_open.ensures c.if-is_open.false in
@@ -47,4 +47,4 @@ returns-clause-shifted g t c =
     let waits = ready_unless_open c.args.way p.wagons c.args.v c.is_open.result c.is_open.ensures c.if-is_open.false in
     let made = shifts_on c.args.way c.args.v c.in-Some.t _ p.siding.now _ p.wagons asking.siding asking.wagons c.shift.ensures.shifted in
     after g.W.EachMove.writer p.siding.now p.wagons (even p) c.args.way c.args.u c.args.v c.requires.lowest c.requires.ready waits c.in-Some.t asking.asking _ made
-    _ c.hand_over-in-Some.ensures.carried c.hand_over-in-Some.ensures.wrote
+    _ c.hand_over-2.ensures.carried c.hand_over-2.ensures.wrote

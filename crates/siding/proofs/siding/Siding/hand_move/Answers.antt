@@ -27,8 +27,9 @@ invariant_of-next c =
     let crosses = c.crossing-crossing.ensures in
     let fits : SFits w16 crossing.demand = search rules in
     let same : to_z w16 (of_z w16 crossing.demand) ≡ crossing.demand = to_z-of_z w16 crossing.demand fits in
-    let carried = sym c.carry.ensures in
-    let away = c.from.ensures ∙ counted (ltb x.figure crossing.figure) in
+    let put = rw (c.from.ensures, c.from-2.ensures) at c.carry.ensures in
+    let carried = sym put in
+    let away = c.from-3.ensures ∙ counted (ltb x.figure crossing.figure) in
     record {
       long = length-set x.demand crossing.section _ ∙ x.long;
       clear = (subst (Clear x.track.sections) carried (moved_clear x m may.legal), x.clear.1);
@@ -44,6 +45,6 @@ returns c =
     let x = c.args.self.now in
     let m : Move = record { from = c.args.from; to = c.args.to } in
     let crossing = c.crossing-crossing.result in
-    let away = c.from.ensures ∙ counted (ltb x.figure crossing.figure) in
-    hand_done x m c.in_ok-may_move.ensures crossing c.from.result c.crossing-crossing.ensures away _
-    (ap (λ w. away_counted (state_of x) w (x.page.away + c.from.result)) c.carry.ensures)
+    let away = c.from-3.ensures ∙ counted (ltb x.figure crossing.figure) in
+    hand_done x m c.in_ok-may_move.ensures crossing c.from-3.result c.crossing-crossing.ensures away _
+    (ap (λ w. away_counted (state_of x) w (x.page.away + c.from-3.result)) (rw (c.from.ensures, c.from-2.ensures) at c.carry.ensures))
