@@ -4,6 +4,8 @@
 #[cfg(test)]
 mod days;
 #[cfg(test)]
+mod plans;
+#[cfg(test)]
 mod refusals;
 #[cfg(test)]
 mod sidings;

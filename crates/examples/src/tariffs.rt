@@ -15,7 +15,7 @@ use tariff::move_count::MoveCount;
 use tariff::pair::Pair;
 use tariff::steepest::Steepest;
 
-fn metres() -> Result<Metres, Refusal> {
+pub(crate) fn metres() -> Result<Metres, Refusal> {
     let mut metres = Metres::level();
     metres.fill(&[0, 25, 30, 40])?;
     Ok(metres)
