@@ -1,5 +1,5 @@
 // Plans, bills and checks of lists, on the fork and on a line of three sections.
-use crate::sidings::fork;
+use crate::sidings::{fork, line_of_three};
 use crate::tariffs::metres;
 use lists::bill::bill;
 use lists::check::check;
@@ -20,16 +20,9 @@ fn across(from: u16, to: u16) -> Move {
     Move { from, to }
 }
 
-// Three sections in a row, with wagons in 0 and 1 and berths at 1 and 2.
-fn line() -> Result<Siding, Refusal> {
-    let mut siding = Siding::bare();
-    siding.draw_up(b"\x00\x03\x00\x02\x00\x00\x00\x00\x00\x01\x01\x03\x02")?;
-    Ok(siding)
-}
-
 #[test]
 fn line_is_planned(rt: HostRuntime) -> Result<(), Fail> {
-    let siding = line()?;
+    let siding = line_of_three()?;
     let mut slots = [BLANK; 3];
     let mut list = List::new(&mut slots);
     list.add(BLANK)?;
@@ -131,7 +124,7 @@ fn checked(siding: &Siding, moves: &[Move]) -> Result<usize, Refusal> {
 
 #[test]
 fn lists_are_checked(rt: HostRuntime) -> Result<(), Fail> {
-    let line = line()?;
+    let line = line_of_three()?;
     assert_eq!(rt;
         checked(&line, &[across(0, 1)]),
         Err(Refusal::AlreadyThere(0))

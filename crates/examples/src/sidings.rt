@@ -204,11 +204,17 @@ fn acts_are_done(rt: HostRuntime) -> Result<(), Fail> {
     Ok(())
 }
 
-// A line of three: the outer wagon makes room first.
-#[test]
-fn room_is_made_first(rt: HostRuntime) -> Result<(), Fail> {
+// Three sections in a row, with wagons in 0 and 1 and berths at 1 and 2.
+pub(crate) fn line_of_three() -> Result<Siding, Refusal> {
     let mut siding = Siding::bare();
     siding.draw_up(b"\x00\x03\x00\x02\x00\x00\x00\x00\x00\x01\x01\x03\x02")?;
+    Ok(siding)
+}
+
+// The outer wagon of a line makes room first.
+#[test]
+fn room_is_made_first(rt: HostRuntime) -> Result<(), Fail> {
+    let mut siding = line_of_three()?;
     assert_eq!(rt; siding.figure(), 2);
     assert_eq!(rt; siding.step(), Ok(Some(Move { from: 1, to: 2 })));
     assert_eq!(rt; siding.step(), Ok(Some(Move { from: 0, to: 1 })));
