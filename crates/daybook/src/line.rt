@@ -1,7 +1,5 @@
 // A line, read as the act that it says.
-ghost use Rattle.std.specs.Prelude.{◌≡◌, ◌<◌, not, length, Some, None, IsTrue, IfSome, MatchOption, slice_index};
-ghost use Rattle.std.specs.Char.{is_ascii_digit};
-ghost use Rattle.std.specs.List.{position};
+ghost use Rattle.std.specs.Prelude.{◌≡◌, Some, None, MatchOption};
 ghost use Rattle.daybook.specs.Line.{Says, line_of, act_of, move_of, section_of, at_end, number_of, digits_from};
 
 use crate::input::LINE_END;
@@ -72,20 +70,17 @@ fn read_number(rest: &[u8]) -> Option<(u16, &[u8])>
     }
 }
 
-// The number that the digits at the start make, and what follows them.
+// The number that the digits at the start make, and what follows them. It stops at the digit that makes the number too
+// large, however many come after it.
 fn read_digits(rest: &[u8]) -> Option<(u16, &[u8])>
-    requires { IsTrue (is_ascii_digit (slice_index rest.now 0)) }
     ensures { MatchOption result (digits_from 0 rest.now ≡ None) (λ p. digits_from 0 rest.now ≡ Some (p.0, p.1.now)) }
 {
-    let (digits, after) = rest.split_at(digits_end(rest)?);
-    let number = str::from_utf8(digits).ok()?.parse().ok()?;
-    Some((number, after))
-}
-
-// Where the digits at the start end, if they do.
-fn digits_end(rest: &[u8]) -> Option<usize>
-    ensures place { result ≡ position (λ b. not (is_ascii_digit b)) rest.now }
-    ensures within { IfSome result (λ end. end < length rest.now) }
-{
-    rest.iter().position(|b| !b.is_ascii_digit())
+    let mut number = 0u16;
+    for (n, b) in rest.iter().enumerate() {
+        if !b.is_ascii_digit() {
+            return Some((number, &rest[n..]));
+        }
+        number = u16::try_from(10 * u32::from(number) + u32::from(*b - b'0')).ok()?;
+    }
+    None
 }

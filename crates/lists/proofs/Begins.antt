@@ -1,41 +1,17 @@
 -- Where the cursors of a planner begin: at the lowest branches.
-use Rattle.std.proofs.Common.{◌≡◌, ℕ, ◌-◌, ◌<◌, ◌≤◌, List, [], ◌∷◌, length, get_or, Some, None, Option, MatchOption, sym, ◌∙◌, ⊎_elim, arith}
-use Rattle.std.specs.Option.{unwrap_or}
-use Rattle.std.proofs.lemmas.List.{get_or_past}
-use Rattle.std.proofs.lemmas.Bool.{cases_lt}
-use Rattle.motion.specs.Tree.{is_branch}
-use Rattle.siding.specs.declared.track.Track.{Track}
-use Rattle.siding.specs.Branches.{branches_of}
+use Rattle.std.proofs.Common.{ℕ, ◌<◌, List, get_or, arith}
+use Rattle.motion.specs.Tree.{Branch}
+use Rattle.siding.specs.Kept.{FirstIsLowest, FirstIsBranch}
 use Rattle.lists.specs.Cursors.{IsLowestBranch}
-use Rattle.lists.proofs.Ranges.{none_left, first_left}
-use Rattle.lists.proofs.Sought.{tested, passes}
 
-module _ (t : Track) (u : ℕ) where
-  -- the first that the row of u gives
-  pub lowest_is : (r : Option ℕ) (xs rest : List ℕ) → xs ≡ branches_of t u → MatchOption r ((xs ≡ []) × (rest ≡ [])) (λ x. xs ≡ x ∷ rest) → IsLowestBranch t.sections t.inner u (unwrap_or r 0)
-  lowest_is (Some v) xs rest is some =
-      let found = first_left (is_branch t.inner u) 0 (t.sections - 0) v rest (sym is ∙ some) in
-      record {
-        here = λ p. tested t.sections t.inner u v (omega (arith, found.is.within)) found.is.passes;
-        lowest = λ k b.
-            let branch = tested t.sections t.inner u v (omega (arith, found.is.within)) found.is.passes in
-            (branch.outer, ⊎_elim (λ (less : k < v). absurd (found.lower k (passes t.sections t.inner u 0 k b (omega arith)) less)) (λ (le : v ≤ k). le) (cases_lt k v));
-      }
-  lowest_is None xs rest is none = record {
-    here = λ p. absurd (omega arith);
-    lowest = λ k b. absurd (none_left (is_branch t.inner u) 0 (t.sections - 0) (sym is ∙ none.0) k (passes t.sections t.inner u 0 k b (omega arith)));
+module _ (n : ℕ) (inner first : List ℕ) (lowest : FirstIsLowest n inner first) where
+  -- what the links of a track have for a section
+  pub lowest_is : FirstIsBranch n inner first → (u : ℕ) → IsLowestBranch n inner u (get_or first u 0)
+  lowest_is branch u = record {
+    here = λ some. record { outer = some; within = (branch u some).0; hangs = (branch u some).1 };
+    lowest = λ k b. lowest u k b;
   }
 
-  pub lowest_small : (c : ℕ) → IsLowestBranch t.sections t.inner u c → c < 512
-  lowest_small c low =
-      ⊎_elim (λ (p : 0 < c). omega (arith, (low.here p).within, t.most)) (λ (none : c ≤ 0). omega arith) (cases_lt 0 c)
-
--- in every slot, and past them all
-pub lowest_each : (t : Track) (first : List ℕ) → length first ≡ 512 → ((u : ℕ) → u < 512 → IsLowestBranch t.sections t.inner u (get_or first u 0)) → (u : ℕ) → IsLowestBranch t.sections t.inner u (get_or first u 0)
-lowest_each t first long each u =
-    ⊎_elim
-    (λ (l : u < 512). each u l)
-    (λ (g : 512 ≤ u).
-    let none = get_or_past first u 0 (omega arith) in
-    record { here = λ p. absurd (omega arith); lowest = λ k b. let low = t.lower k b.outer b.within in let at = b.hangs in absurd (omega (arith, b.within, t.most)) })
-    (cases_lt u 512)
+  -- no branch lies before the lowest
+  pub none_passed : (P : ℕ → Type 0) (u k : ℕ) → Branch n inner u k → (0 < get_or first u 0 → k < get_or first u 0) → P k → ⊥
+  none_passed P u k b passed p = let l = lowest u k b in let before = passed l.0 in omega (arith, l.1)

@@ -8,7 +8,6 @@ ghost use Rattle.siding.specs.Kept.{TrueDemands};
 ghost use Rattle.siding.specs.Stands.{state_of};
 ghost use Rattle.lists.specs.Cursors.{AtBranches, IsLowestBranch, PassedAskNot};
 
-use searching::first_branches;
 use siding::Siding;
 use siding::track::MOST_SECTIONS;
 
@@ -49,17 +48,18 @@ impl<'a> Planner<'a> {
         requires { EqualNumbers (state_of siding.now) }
         ensures siding { result.siding.now ≡ siding.now }
         ensures wagons { result.wagons ≡ siding.now.wagons.in_section }
+        ensures demand { result.demand ≡ siding.now.demand }
         ensures outward { (u : ℕ) → IsLowestBranch siding.now.track.sections siding.now.track.inner u (slice_index result.outward u) }
         ensures inward { (u : ℕ) → IsLowestBranch siding.now.track.sections siding.now.track.inner u (slice_index result.inward u) }
     {
         let layout = siding.layout();
-        let first = first_branches(layout.track);
+        let first = layout.track.lowest_branches();
         Planner {
             siding,
             wagons: *layout.wagons,
             demand: *layout.demand,
-            outward: first,
-            inward: first,
+            outward: *first,
+            inward: *first,
         }
     }
 }

@@ -40,6 +40,11 @@ module _ (n : ℕ) (inner wagons berths : List ℕ) where
   asks_if Outward v l = grind arith
   asks_if Inward v l = omega (arith, ints)
 
+  -- a branch that asks has a demand
+  pub asks_not_0 : (way : Way) (v : ℕ) → Asks way n inner wagons berths v → demand_of n inner wagons berths v ≡ pos 0 → ⊥
+  asks_not_0 Outward v asks none = grind arith
+  asks_not_0 Inward v asks none = grind arith
+
   asks_or_not : (way : Way) (v : ℕ) → Asks way n inner wagons berths v ⊎ (Asks way n inner wagons berths v → ⊥)
   asks_or_not way v = grind arith
 

@@ -28,6 +28,10 @@ outward_no m l s = grind arith
 pub outward_other : (m : Move) (s : ℕ) → s ≢ m.to → one_if (crosses_outward s m) ≡ 0
 outward_other m s ne = grind arith
 
+-- no move crosses a section but the higher of its own
+pub crosses_other : (m : Move) (s : ℕ) → s ≢ max m.from m.to → (one_if (crosses_inward s m) ≡ 0) × (one_if (crosses_outward s m) ≡ 0)
+crosses_other m s ne = grind arith
+
 pub one_demand_changes :
     (n : ℕ) (inner wagons berths : List ℕ) (m : Move) → Tree n inner → n ≤ length wagons → Legal n inner wagons m
     → OneUpOrDown n inner wagons berths m

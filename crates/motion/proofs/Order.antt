@@ -103,6 +103,10 @@ module _ (n : ℕ) (inner : List ℕ) (tree : Tree n inner) where
   before_irrefl l (Before.above b u) = omega (arith, below_le l u)
   before_irrefl l (Before.beside ba bb ab ua ub) = apart ba bb ab ua ub
 
+  pub nothing_before_neck : {t : ℕ} → 0 < n → Before n inner t 0 → ⊥
+  nothing_before_neck l (Before.above b u) = omega (arith, b.outer, below_le l u)
+  nothing_before_neck l (Before.beside ba bb ab ua ub) = omega (arith, bb.outer, below_le l ub)
+
   -- every section lies below the neck
   pub below_the_neck : (k t : ℕ) → t ≤ k → t < n → Below inner 0 t
   below_the_neck k zero p l = Below.itself

@@ -1,10 +1,15 @@
 -- The sum below a section is its own entry plus the sums below its branches.
 use Rattle.std.proofs.Common.{◌≡◌, ℕ, zero, suc, ◌+◌, ◌<◌, ◌≤◌, Bool, true, false, cond, eqb, ◌≢◌, List, get_or, refl, arith}
+use Rattle.std.proofs.lemmas.Bool.Decides.{nat_tests}
 use Rattle.motion.specs.Tree.{Tree, is_below, is_branch, sum_to, under}
 use Rattle.motion.proofs.Sums.{sum_same, sum_one, sum_zero, sum_add, sum_swap, sum_pick}
 use Rattle.motion.proofs.Underneath.{below_self, below_neck, below_high, below_other}
 
 module _ (n : ℕ) (inner : List ℕ) (tree : Tree n inner) where
+  -- a branch has a higher number than the section that it hangs on
+  pub branch_high : (s c : ℕ) → c < n → is_branch inner s c ≡ true → (s < c) × (0 < c) × (get_or inner c 0 ≡ s)
+  branch_high s c l b = grind (arith, nat_tests, tree.lower c)
+
   -- what the section t adds below the branches of s: x, where it lies below the branch c
   below_branch : ℕ → ℕ → ℕ → ℕ → ℕ
   below_branch x s t c = cond (is_branch inner s c) (cond (is_below inner c t) x 0) 0

@@ -1,14 +1,16 @@
 -- What a siding keeps through a hand move.
-use Rattle.std.proofs.Common.{◌≡◌, ℕ, ◌+◌, ◌-◌, ◌*◌, ◌<◌, ◌≤◌, max, true, eqb, ltb, List, length, get_or, set, ℤ, pos, negsuc, ◌+ℤ◌, nat_abs, Ok, Err, Result, sym, ap, ◌∙◌, subst, inl, inr, ⊎_elim, arith}
+use Rattle.std.proofs.Common.{◌≡◌, ℕ, ◌+◌, ◌-◌, ◌*◌, ◌<◌, ◌≤◌, max, true, eqb, ltb, ◌≢◌, List, length, get_or, set, ℤ, pos, negsuc, ◌+ℤ◌, nat_abs, Ok, Err, Result, sym, ap, ◌∙◌, subst, inl, inr, ⊎_elim, arith}
 use Rattle.std.proofs.lemmas.List.{get_or-set_same, get_or-set_other, length-set}
 use Rattle.std.proofs.lemmas.Int.{ints}
 use Rattle.std.proofs.lemmas.Bool.{cases_eq, cond-true, cond-false, lt-ltb, le-ltb, eq-eqb, ne_eqb, or_left, or_right}
-use Rattle.motion.specs.Demand.{demand_of, figure_of}
+use Rattle.motion.specs.Tree.{total}
+use Rattle.motion.specs.Demand.{demand_of, figure_of, Single}
 use Rattle.motion.specs.Moves.{Neighbours, moved, one_less, Legal, one_if}
 use Rattle.motion.specs.State.{State, most_moves}
 use Rattle.motion.specs.Calls.{hand_moved}
 use Rattle.motion.specs.declared.calls.Call.TheVariants.{Hand}
 use Rattle.motion.specs.declared.moves.Move.{Move}
+use Rattle.motion.proofs.Changed.{length_moved, total_moved, single_more, single_less}
 use Rattle.motion.proofs.Crossings.{one_demand_changes, figure_moved}
 use Rattle.motion.proofs.Pages.{hand_balances, legal_apart}
 use Rattle.siding.specs.declared.siding.Siding.{Siding}
@@ -20,7 +22,7 @@ use Rattle.refusal.specs.declared.Refusal.TheVariants.{PageFull}
 use Rattle.siding.specs.Kept.{Clear, TrueDemands, ClearDemands}
 use Rattle.siding.specs.Stands.{state_of}
 use Rattle.siding.proofs.Branches.{branch_found}
-use Rattle.siding.proofs.Held.{held_tree}
+use Rattle.siding.proofs.Held.{held_tree, one_wagon, wagons_counted}
 use Rattle.siding.proofs.Stocked.{clear_set}
 
 module _ (x : Siding) (m : Move) (legal : Legal x.track.sections x.track.inner x.wagons.in_section m) where
@@ -64,6 +66,10 @@ module _ (x : Siding) (m : Move) (legal : Legal x.track.sections x.track.inner x
       let old = x.demands m.to legal.to_in in
       crosses_by c m.to (omega arith) at (omega (arith, ints)) adds
 
+  -- the wagons after the move
+  pub moved_long : length (moved x.wagons.in_section m) ≡ 512
+  moved_long = length_moved x.track.sections x.track.inner (held_tree x) x.wagons.in_section m legal ∙ x.wagons.long
+
   left : List ℕ
   left = one_less x.wagons.in_section m.from
 
@@ -71,9 +77,25 @@ module _ (x : Siding) (m : Move) (legal : Legal x.track.sections x.track.inner x
   unfolding left
   left_long = omega (arith, length-set x.wagons.in_section m.from (get_or x.wagons.in_section m.from 0 - 1), long)
 
+  -- the section that it enters is still free once the wagon has left
+  still_free : get_or left m.to 0 ≡ 0
+  unfolding left
+  still_free =
+      let apart : m.to ≢ m.from = ⊎_elim (λ (h : m.to < m.from). λ e. omega arith) (λ (h : m.from < m.to). λ e. omega arith) (legal_apart x.track.sections x.track.inner x.wagons.in_section m (held_tree x) legal) in
+      get_or-set_other x.wagons.in_section m.from m.to _ 0 apart ∙ legal.free
+
+  pub moved_single : Single x.track.sections (moved x.wagons.in_section m)
+  unfolding left
+  moved_single =
+      single_more x.track.sections left m.to legal.to_in left_long still_free
+      (single_less x.track.sections x.wagons.in_section m.from legal.from_in long (one_wagon x))
+
   pub moved_clear : Clear x.track.sections (moved x.wagons.in_section m)
   unfolding left
   moved_clear = clear_set x.track.sections left m.to legal.to_in left_long _ (clear_set x.track.sections x.wagons.in_section m.from legal.from_in long _ x.clear.0)
+
+  pub moved_count : x.wagons.in_all ≡ total x.track.sections (moved x.wagons.in_section m)
+  moved_count = wagons_counted x ∙ sym (total_moved x.track.sections x.track.inner (held_tree x) x.wagons.in_section m legal long)
 
   module _ (c : Crossing) (crosses : Crosses x m c) (stored : ℤ) (same : stored ≡ c.demand) where
     pub moved_demands : TrueDemands x.track.sections x.track.inner (moved x.wagons.in_section m) x.berths.in_section (set x.demand c.section stored)

@@ -9,7 +9,7 @@ use Rattle.siding.specs.declared.placed.Placed.{Placed}
 use Rattle.siding.specs.declared.track.Track.{Track}
 use Rattle.siding.specs.Kept.{Clear, TrueDemands, sizes}
 use Rattle.siding.specs.Stands.{on_track}
-use Rattle.siding.proofs.Counted.{sum_is_total}
+use Rattle.siding.proofs.Counted.{sum_is_total, sum_most, sum_part}
 use Rattle.siding.proofs.Way.{sizes_part}
 use Rattle.std.proofs.lemmas.Bool.{ltb-true}
 use Rattle.refusal.specs.declared.Refusal.TheVariants.{NoSection}
@@ -35,6 +35,19 @@ wagons_counted x = placed_counted x.track.sections x.wagons x.track.most x.clear
 
 pub berths_counted : (x : Siding) → x.berths.in_all ≡ total x.track.sections x.berths.in_section
 berths_counted x = placed_counted x.track.sections x.berths x.track.most x.clear.1
+
+-- there are at most 512 wagons and berths, and at least those of one section
+pub placed_within : (p : Placed) (s : ℕ) → s < 512 → (p.in_all ≤ 512) × (get_or p.in_section s 0 ≤ p.in_all)
+placed_within p s l =
+    let most = sum_most p.in_section p.single in
+    let part = sum_part p.in_section s (omega (arith, p.long)) in
+    (omega (arith, p.counted, p.long), omega (arith, p.counted))
+
+pub held_wagons : (x : Siding) (s : ℕ) → s < x.track.sections → (x.wagons.in_all ≤ 512) × (get_or x.wagons.in_section s 0 ≤ x.wagons.in_all)
+held_wagons x s l = placed_within x.wagons s (omega (arith, x.track.most))
+
+pub held_berths : (x : Siding) (s : ℕ) → s < x.track.sections → (x.berths.in_all ≤ 512) × (get_or x.berths.in_section s 0 ≤ x.berths.in_all)
+held_berths x s l = placed_within x.berths s (omega (arith, x.track.most))
 
 pub held_demand : (x : Siding) (s : ℕ) → s < x.track.sections → nat_abs (get_or x.demand s (pos 0)) ≤ 512
 held_demand x s l =
@@ -66,3 +79,7 @@ section_in t s r e = by_test (ltb s t.sections) refl e
 -- a demand without its sign is a part of the figure
 pub held_part : (x : Siding) (s : ℕ) → 0 < s → s < x.track.sections → nat_abs (get_or x.demand s (pos 0)) ≤ x.figure
 held_part x s p l = let part = sizes_part x.track.sections x.demand s p l in omega (arith, held_sizes x)
+
+-- the away moves are few
+pub held_away : (x : Siding) → x.page.away ≤ 400000
+held_away x = let f = held_figure x in omega (arith, x.few, x.balances)

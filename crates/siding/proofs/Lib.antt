@@ -1,7 +1,7 @@
-mod Branches
+pub mod Branches
 mod Begun
 pub mod Blank
-mod Counted
+pub mod Counted
 pub mod Demands
 pub mod Drawn
 pub mod DrawnUp
@@ -13,6 +13,7 @@ pub mod Made
 pub mod LowestFault
 pub mod Outcomes
 pub mod Overwritten
+pub mod Padded
 pub mod Pairs
 pub mod RoundTrip
 pub mod Row

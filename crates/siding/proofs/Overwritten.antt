@@ -1,6 +1,6 @@
 -- Bytes written into a buffer, one after another.
 use Rattle.std.proofs.Common.{◌≡◌, ℕ, ◌+◌, ◌<◌, ◌≤◌, List, [], ◌∷◌, ◌++◌, length, get_or, take, drop, set, sym, refl, ap, ◌∙◌, arith}
-use Rattle.std.proofs.lemmas.List.{append_assoc, length-append, length_push, length-take-le, take-append-drop, take_at, drop_at, drop-drop, drop_more, set_at}
+use Rattle.std.proofs.lemmas.List.{append_assoc, length-append, length_push, length-take-le, take-append-drop, take_at, drop_at, drop-drop, length-drop, drop_more, set_at}
 use Rattle.siding.specs.Sheet.{overwritten}
 
 pub overwritten_none : (buffer : List ℕ) (at : ℕ) → buffer ≡ overwritten buffer at []
@@ -52,6 +52,22 @@ module _ (buffer : List ℕ) (at : ℕ) (bytes : List ℕ) where
       ∙ append_assoc (take at buffer) bytes (more ++ drop (k + length more) buffer)
       ∙ ap (λ ys. take at buffer ++ ys) (sym (append_assoc bytes more (drop (k + length more) buffer)))
       ∙ ap (λ j. take at buffer ++ ((bytes ++ more) ++ drop j buffer)) end
+
+  pub length_overwritten : at + length bytes ≤ length buffer → length (overwritten buffer at bytes) ≡ length buffer
+  length_overwritten l =
+      let a = length-append front (drop (at + length bytes) buffer) in
+      let b = length_front (omega arith) in
+      let c = ap length in_front in
+      let d = length-drop (at + length bytes) buffer in
+      omega arith
+
+-- two bytes
+pub overwritten_two : (buffer : List ℕ) (at a b : ℕ) → at + 1 < length buffer → set (set buffer at a) (at + 1) b ≡ overwritten buffer at (a ∷ b ∷ [])
+overwritten_two buffer at a b l =
+    let z : at + 0 ≡ at = omega arith in
+    let one : set buffer at a ≡ overwritten buffer at (a ∷ []) =
+    ap (λ xs. set xs at a) (overwritten_none buffer at) ∙ ap (λ k. set (overwritten buffer at []) k a) (sym z) ∙ overwritten_more buffer at [] a (omega arith) in
+    ap (λ xs. set xs (at + 1) b) one ∙ overwritten_more buffer at (a ∷ []) b l
 
 -- what was written at the start of a buffer
 pub take_overwritten : (buffer bytes : List ℕ) → take (length bytes) (overwritten buffer 0 bytes) ≡ bytes

@@ -1,5 +1,5 @@
 -- The charge of a list of moves.
-use Rattle.std.specs.Prelude.{ℕ, zero, suc, max, if◌then◌else◌, List, [], ◌∷◌, nat_lt}
+use Rattle.std.specs.Prelude.{ℕ, zero, suc, ◌%◌, max, if◌then◌else◌, List, [], ◌∷◌, ◌==◌, nat_lt}
 use Rattle.motion.specs.declared.moves.Move.{Move}
 use Rattle.motion.specs.declared.ways.Way.{Way}
 use Rattle.motion.specs.declared.ways.Way.TheVariants.{Inward, Outward}
@@ -29,6 +29,10 @@ charged rule ms = joined_from rule rule.none ms
 unfoldable pub times : {S : Type 0} → Rule S → S → ℕ → S
 times rule a zero = rule.none
 times rule a (suc k) = rule.plus a (times rule a k)
+
+-- joined where a number is odd
+abbrev pub joined_if_odd : {S : Type 0} → Rule S → S → S → ℕ → S
+joined_if_odd rule sum a k = if k % 2 == 1 then rule.plus sum a else sum
 
 -- what the crossings of sections 1 to k come to, where s is crossed as often each way as `asked` says
 unfoldable pub by_sections : {S : Type 0} → Rule S → (Way → ℕ → ℕ) → ℕ → S

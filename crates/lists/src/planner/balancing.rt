@@ -4,7 +4,7 @@ ghost use Rattle.std.specs.Prelude.{◌≡◌, ◌<◌, [], ◌∷◌, length};
 ghost use Rattle.motion.specs.Due.{Ready, over};
 ghost use Rattle.motion.specs.Moves.{moved};
 ghost use Rattle.motion.specs.Stepping.{Task};
-ghost use Rattle.lists.specs.Planner.{CanCarry};
+ghost use Rattle.lists.specs.Planner.{CanCarry, DemandEased};
 ghost use Rattle.lists.specs.Writing.{Wrote, HasSlot};
 ghost use Rattle.lists.specs.Balanced.{Made, ShiftsAt, TurnsAt, BalancingAt, LowestAt, HasRoom, SettledBefore};
 
@@ -72,6 +72,8 @@ impl Planner<'_> {
         requires room { HasSlot book.old }
         ensures siding { self.new.siding.now ≡ self.old.siding.now }
         ensures carried { self.new.wagons ≡ moved self.old.wagons (over way u v) }
+        ensures demand { DemandEased way self.old v self.new }
+        ensures cursors { (self.new.outward ≡ self.old.outward) × (self.new.inward ≡ self.old.inward) }
         ensures wrote { Wrote W.EachMove.writer book.old (over way u v ∷ []) book.new }
     {
         let m = self.carry(way, u, v);

@@ -2,7 +2,7 @@
 ghost use Rattle.std.specs.Prelude.{◌≡◌, ◌≤◌, unsigned_abs};
 ghost use Rattle.motion.specs.Due.{over, Eased};
 ghost use Rattle.motion.specs.Moves.{moved};
-ghost use Rattle.lists.specs.Planner.{CanCarry};
+ghost use Rattle.lists.specs.Planner.{CanCarry, DemandEased};
 
 use super::Planner;
 use crate::moving::move_wagon;
@@ -15,6 +15,7 @@ impl Planner<'_> {
         requires { CanCarry way self.old u v }
         ensures siding { self.new.siding.now ≡ self.old.siding.now }
         ensures carried { self.new.wagons ≡ moved self.old.wagons (over way u v) }
+        ensures demand { DemandEased way self.old v self.new }
         ensures cursors { (self.new.outward ≡ self.old.outward) × (self.new.inward ≡ self.old.inward) }
         ensures made { result ≡ over way u v }
     {

@@ -1,13 +1,10 @@
 // The search for the lowest branch that asks, from where it stopped the last time.
-ghost use Rattle.std.specs.Prelude.{◌≡◌, ◌<◌, ℕ, length, slice_index, slice_set};
+ghost use Rattle.std.specs.Prelude.{◌≡◌, ◌<◌, slice_index, slice_set};
 ghost use Rattle.std.specs.Option.{unwrap_or};
-ghost use Rattle.lists.specs.Cursors.{IsLowestBranch};
-ghost use Rattle.lists.specs.Planner.{cursors, Asking};
+ghost use Rattle.lists.specs.Planner.{cursors, other_cursors, Asking};
 
 use super::Planner;
 use motion::ways::Way;
-use siding::track::{MOST_SECTIONS, Track};
-use std::array;
 
 impl Planner<'_> {
     // The lowest branch of the section that asks for a move this way.
@@ -17,6 +14,7 @@ impl Planner<'_> {
         ensures wagons { self.new.wagons ≡ self.old.wagons }
         ensures demand { self.new.demand ≡ self.old.demand }
         ensures cursor { cursors way self.new ≡ slice_set (cursors way self.old) u (unwrap_or result 0) }
+        ensures others { other_cursors way self.new ≡ other_cursors way self.old }
         ensures asking { Asking self.old.siding.now self.old.wagons way u result }
     {
         let found = self.reached(way, u);
@@ -53,6 +51,7 @@ impl Planner<'_> {
         ensures wagons { self.new.wagons ≡ self.old.wagons }
         ensures demand { self.new.demand ≡ self.old.demand }
         ensures cursor { cursors way self.new ≡ slice_set (cursors way self.old) u (unwrap_or found 0) }
+        ensures others { other_cursors way self.new ≡ other_cursors way self.old }
     {
         let cursor = found.unwrap_or(0) as u16;
         match way {
@@ -60,19 +59,4 @@ impl Planner<'_> {
             Way::Inward => self.inward[u] = cursor,
         }
     }
-}
-
-// The lowest branch of each section.
-pub(crate) fn first_branches(track: &Track) -> [u16; MOST_SECTIONS]
-    ensures long { length result ≡ 512 }
-    ensures lowest { (u : ℕ) → IsLowestBranch track.now.sections track.now.inner u (slice_index result u) }
-{
-    array::from_fn(|section| first_branch(track, section))
-}
-
-// The lowest branch of a section, or 0 where it has none, as the cursors have it; a section fits here too.
-fn first_branch(track: &Track, section: usize) -> u16
-    ensures { IsLowestBranch track.now.sections track.now.inner section result }
-{
-    track.branches(section).next().unwrap_or(0) as u16
 }

@@ -16,30 +16,46 @@ impl Placed {
         Placed { in_section, in_all }
     }
 
-    // Adds one to a section that has none.
-    pub(crate) fn add(&mut self, s: usize) -> Result<(), Refusal>
+    // The refusal of one more in a section, if it has one. It is asked before anything is copied.
+    pub(crate) fn test_none(&self, s: usize) -> Result<(), Refusal>
         requires { s < 512 }
-        ensures { MatchResult result (λ _. (slice_index self.old.in_section s ≡ 0) × (self.new.in_section ≡ one_more self.old.in_section s)) (λ e. (0 < slice_index self.old.in_section s) × (e ≡ AlreadyThere 0)) }
+        ensures { MatchResult result (λ _. slice_index self.now.in_section s ≡ 0) (λ e. (0 < slice_index self.now.in_section s) × (e ≡ AlreadyThere 0)) }
     {
         if self.in_section[s] != 0 {
             return Err(Refusal::AlreadyThere(0));
         }
-        self.in_section[s] += 1;
-        self.in_all += 1;
         Ok(())
     }
 
-    // Takes one from a section that has one.
-    pub(crate) fn remove(&mut self, s: usize) -> Result<(), Refusal>
+    // The refusal of one less in a section, if it has none.
+    pub(crate) fn test_one(&self, s: usize) -> Result<(), Refusal>
         requires { s < 512 }
-        ensures { MatchResult result (λ _. (0 < slice_index self.old.in_section s) × (self.new.in_section ≡ one_less self.old.in_section s)) (λ e. (slice_index self.old.in_section s ≡ 0) × (e ≡ NotThere 0)) }
+        ensures { MatchResult result (λ _. 0 < slice_index self.now.in_section s) (λ e. (slice_index self.now.in_section s ≡ 0) × (e ≡ NotThere 0)) }
     {
         if self.in_section[s] == 0 {
             return Err(Refusal::NotThere(0));
         }
+        Ok(())
+    }
+
+    // Adds one to a section that has none.
+    pub(crate) fn add(&mut self, s: usize)
+        requires within { s < 512 }
+        requires none { slice_index self.old.in_section s ≡ 0 }
+        ensures { self.new.in_section ≡ one_more self.old.in_section s }
+    {
+        self.in_section[s] += 1;
+        self.in_all += 1;
+    }
+
+    // Takes one from a section that has one.
+    pub(crate) fn remove(&mut self, s: usize)
+        requires within { s < 512 }
+        requires one { 0 < slice_index self.old.in_section s }
+        ensures { self.new.in_section ≡ one_less self.old.in_section s }
+    {
         self.in_section[s] -= 1;
         self.in_all -= 1;
-        Ok(())
     }
 
     // Takes one to an empty section from another that has one. `lists` does the same on its own copy of the wagons: a

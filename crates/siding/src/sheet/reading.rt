@@ -1,5 +1,5 @@
 // A sheet's faults, and what its entries and marks say.
-ghost use Rattle.std.specs.Prelude.{◌≡◌, ◌*◌, ◌+◌, ◌/◌, ◌%◌, ◌<◌, ◌≤◌, not, length, if◌then◌else◌, Err, MatchResult, ◌==◌, nat_eq, nat_le};
+ghost use Rattle.std.specs.Prelude.{◌≡◌, ◌*◌, ◌+◌, ◌-◌, ◌/◌, ◌%◌, ◌<◌, ◌≤◌, ◌++◌, not, length, replicate, if◌then◌else◌, Err, MatchResult, ◌==◌, nat_eq, nat_le};
 ghost use Rattle.siding.specs.Sheet.{word, inner_of, mark_of, wagons_stated, inner_at_fault, mark_at_fault, lowest, slots, drawn, Faultless};
 
 use super::Sheet;
@@ -87,51 +87,47 @@ impl<'a> Sheet<'a> {
         self.bytes[4 + 2 * self.sections + s]
     }
 
-    // The inner neighbour of a section, and 0 past them. One function for this and for marks would take the reading as a
-    // closure, and be longer than both.
-    fn inner_slot(&self, s: usize) -> u16
-        ensures within { s < self.now.sections → result ≡ inner_of self.now.bytes.now s }
-        ensures past { self.now.sections ≤ s → result ≡ 0 }
-    {
-        if s < self.sections {
-            self.inner_of(s)
-        } else {
-            0
-        }
-    }
-
-    // The mark of a section, and 0 past them.
-    fn mark_slot(&self, s: usize) -> u8
-        ensures within { s < self.now.sections → result ≡ mark_of self.now.bytes.now s }
-        ensures past { self.now.sections ≤ s → result ≡ 0 }
-    {
-        if s < self.sections {
-            self.mark_of(s)
-        } else {
-            0
-        }
-    }
-
-    // The inner neighbour of each section.
+    // The inner neighbour of each section. The bytes are copied first, with zeros past the sections, so that one array is
+    // made of another with no test for each slot.
     pub(crate) fn inner(&self) -> [u16; MOST_SECTIONS]
         ensures { result ≡ slots self.now.sections (inner_of self.now.bytes.now) }
     {
-        array::from_fn(|s| self.inner_slot(s))
+        let pairs: [u8; 2 * MOST_SECTIONS] = padded(&self.bytes[4..4 + 2 * self.sections]);
+        array::from_fn(|s| u16::from_be_bytes([pairs[2 * s], pairs[2 * s + 1]]))
+    }
+
+    // The mark of each section.
+    fn marks(&self) -> [u8; MOST_SECTIONS]
+        ensures { result ≡ slots self.now.sections (mark_of self.now.bytes.now) }
+    {
+        padded(&self.bytes[4 + 2 * self.sections..])
     }
 
     // How many wagons each section has: a wagon makes a mark odd.
     pub(crate) fn wagons(&self) -> [u8; MOST_SECTIONS]
         ensures { result ≡ slots self.now.sections (λ s. mark_of self.now.bytes.now s % 2) }
     {
-        array::from_fn(|s| self.mark_slot(s) % 2)
+        let marks = self.marks();
+        array::from_fn(|s| marks[s] % 2)
     }
 
     // How many berths each section has: a berth adds 2 to a mark.
     pub(crate) fn berths(&self) -> [u8; MOST_SECTIONS]
         ensures { result ≡ slots self.now.sections (λ s. mark_of self.now.bytes.now s / 2) }
     {
-        array::from_fn(|s| self.mark_slot(s) / 2)
+        let marks = self.marks();
+        array::from_fn(|s| marks[s] / 2)
     }
+}
+
+// The bytes of a list, and zeros past them.
+fn padded<const SIZE: usize>(list: &[u8]) -> [u8; SIZE]
+    requires { length list.now ≤ SIZE }
+    ensures { result ≡ list.now ++ replicate (SIZE - length list.now) 0 }
+{
+    let mut slots = [0; SIZE];
+    slots[..list.len()].copy_from_slice(list);
+    slots
 }
 
 // Whether the section may not have this inner neighbour.

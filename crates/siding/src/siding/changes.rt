@@ -20,8 +20,9 @@ impl Siding {
         ensures { CarriedOut (outcome (Put section) (state_of self.old)) result self.old self.new }
     {
         let s = self.track.section(section)?;
+        self.wagons.test_none(s)?;
         let mut wagons = self.wagons;
-        wagons.add(s)?;
+        wagons.add(s);
         *self = self.restocked(wagons, self.berths, s, -1);
         Ok(())
     }
@@ -31,8 +32,9 @@ impl Siding {
         ensures { CarriedOut (outcome (Take section) (state_of self.old)) result self.old self.new }
     {
         let s = self.track.section(section)?;
+        self.wagons.test_one(s)?;
         let mut wagons = self.wagons;
-        wagons.remove(s)?;
+        wagons.remove(s);
         *self = self.restocked(wagons, self.berths, s, 1);
         Ok(())
     }
@@ -42,8 +44,9 @@ impl Siding {
         ensures { CarriedOut (outcome (Mark section) (state_of self.old)) result self.old self.new }
     {
         let s = self.track.section(section)?;
+        self.berths.test_none(s)?;
         let mut berths = self.berths;
-        berths.add(s)?;
+        berths.add(s);
         *self = self.restocked(self.wagons, berths, s, 1);
         Ok(())
     }
@@ -53,8 +56,9 @@ impl Siding {
         ensures { CarriedOut (outcome (Unmark section) (state_of self.old)) result self.old self.new }
     {
         let s = self.track.section(section)?;
+        self.berths.test_one(s)?;
         let mut berths = self.berths;
-        berths.remove(s)?;
+        berths.remove(s);
         *self = self.restocked(self.wagons, berths, s, -1);
         Ok(())
     }

@@ -5,4 +5,4 @@ use Rattle.siding.proofs.siding.Siding.mark.Goals as goal
 pub restocked-requires : goal.restocked-requires
 restocked-requires c =
     let x = c.args.self.now in
-    mark_stands x c.in_ok-s.s (section_in x.track c.args.section _ c.in_ok-s.ensures) c.add.new.self c.in_ok-add.ensures.1
+    mark_stands x c.in_ok-s.s (section_in x.track c.args.section _ c.in_ok-s.ensures) c.add.new.self c.add.ensures
