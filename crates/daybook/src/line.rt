@@ -71,7 +71,7 @@ fn read_number(rest: &[u8]) -> Option<(u16, &[u8])>
 }
 
 // The number that the digits at the start make, and what follows them. It stops at the digit that makes the number too
-// large, however many come after it.
+// large, however many come after it. A loop: to cut the digits off and parse them goes through each three times.
 fn read_digits(rest: &[u8]) -> Option<(u16, &[u8])>
     ensures { MatchOption result (digits_from 0 rest.now ≡ None) (λ p. digits_from 0 rest.now ≡ Some (p.0, p.1.now)) }
 {
