@@ -1,5 +1,5 @@
 -- The 512 slots of an array of a siding: an entry for each section, and then 0.
-use Rattle.std.proofs.Common.{◌≡◌, ℕ, ◌<◌, ◌≤◌, cond, ltb, List, length, get_or, sym, ◌∙◌, ⊎_elim, arith}
+use Rattle.std.proofs.Common.{◌≡◌, ℕ, ◌<◌, ◌≤◌, cond, ltb, List, length, get_or, sym, ap, ◌∙◌, ⊎_elim, arith}
 use Rattle.std.proofs.lemmas.List.{get_or_past}
 use Rattle.std.proofs.lemmas.List.FromFn.{length-map-range_with_len, get_or-map-range_with_len, fill_by_all}
 use Rattle.std.proofs.lemmas.Bool.{cases_lt, cond-true, cond-false, lt-ltb, le-ltb}
@@ -70,3 +70,13 @@ slots_is n xs most long clear =
     (λ (low : s < n). sym (entry_in n (λ t. get_or xs t 0) s low))
     (λ (high : n ≤ s). clear s high ∙ sym (entry_past n (λ t. get_or xs t 0) s high))
     (cases_lt s n))
+
+-- an array made of another, slot by slot; 0 stays 0
+pub slots_mapped :
+    (n : ℕ) (f g : ℕ → ℕ) (old new : List ℕ) → n ≤ 512 → g 0 ≡ 0 → old ≡ slots n f → length new ≡ 512
+    → ((s : ℕ) → s < 512 → get_or new s 0 ≡ g (get_or old s 0))
+    → new ≡ slots n (λ s. g (f s))
+slots_mapped n f g old new most zero is long each =
+    slots_made n (λ s. g (f s)) new long (λ s l.
+    let slot : get_or new s 0 ≡ g (get_or (slots n f) s 0) = each s l ∙ ap (λ xs. g (get_or xs s 0)) is in
+    (λ low. slot ∙ ap g (slots_in n f s most low), λ high. slot ∙ ap g (slots_past n f s most high) ∙ zero))
